@@ -6,8 +6,8 @@
     .ci/believed.py --of NAME    list what one definition (as Demanded) reaches
 
 Public entries are the `pub fn` of crates format, unwind, two_sections and walked_back and of the reader's module cursor, and every
-`pub extern "C" fn` of a library. The names in their `requires` and `ensures` are followed, definition by definition, through the
-`ghost use` lines of the sources and the `use` lines of the definitions. It fails where a reached file is not in the table or stands in
+`pub extern "C" fn` of a library; what a conversion of those crates promises (`ghost from_gives = { .. }`) counts as theirs. The names
+in their `requires` and `ensures` are followed, definition by definition, through the `ghost use` lines of the sources and the `use` lines of the definitions. It fails where a reached file is not in the table or stands in
 a proofs/ folder, where a file of the table is not reached, where a definition of crates/format/specs or crates/unwind/specs is not
 reached, where a line count is off by more than a tenth, and where crates/dekvoz does not export each `pub extern "C" fn` of the
 libraries, and no other, with the parameters, the result and the clauses that it has there."""
@@ -181,6 +181,11 @@ def contracts():
                     yield entry, None
             elif re.match(r'\s*fn ', line):
                 entry = None
+            elif crate in PUBLIC and re.match(r'\s*ghost \w+_gives = ', line):
+                for word in words(clause(lines, i)):
+                    found = meaning(word, names, aliases)
+                    if found:
+                        yield f'{crate}::{method}{line.split()[1]}', found
             elif entry and re.match(r'\s*(requires|ensures)\b', line):
                 for word in words(clause(lines, i)):
                     found = meaning(word, names, aliases)

@@ -6,14 +6,14 @@ use Rattle.std.specs.Prelude.{Some, None}
 use Rattle.format.specs.Put.{put}
 use Rattle.format.specs.Leb.{little}
 use Rattle.format.specs.Lists.{Relocation}
-use Rattle.format.proofs.Asked.{option_of}
+use Rattle.format.proofs.Asked.{option_of, none_is, value_is}
 use Rattle.apply.specs.declared.Width.{Width}
 use Rattle.apply.specs.declared.Kind.{Kind}
 use Rattle.apply.specs.declared.Kind.TheVariants.{Data, Address, SumPlus, SumMinus, Image, Set, Sub, Unknown}
 use Rattle.apply.specs.Kinds.{kind_of, bytes_of, size_ok}
 use Rattle.apply.specs.Fields.{set_in, sub_in, whole_in}
 use Rattle.apply.specs.Values.{Layout, sum_of, value_as, store_as, store_of}
-use Rattle.apply.proofs.Tests.{some_of, none_of, step_size, step_size_2}
+use Rattle.apply.proofs.Tests.{step_size, step_size_2}
 
 module _ (l : Layout) (bs : List ℕ) (r : Relocation) (behind : Option Relocation) {k : Kind} (e : k ≡ kind_of r.kind) where
   by_kind : (k' : Kind) → k ≡ k' → store_as k' l bs r behind ≡ store_of l bs r behind
@@ -54,8 +54,8 @@ module _ (l : Layout) (bs : List ℕ) (r : Relocation) (behind : Option Relocati
 
     pub whole_stored : {v : ℕ} → Some v ≡ option_of (value_as k l r behind) → put bs r.place (little r.bytes v) ≡ store_of l bs r behind
     unfolding whole_in
-    whole_stored x = (rw (some_of (value_as k l r behind) x) at (whole k refl)) ∙ by_kind k refl
+    whole_stored x = (rw (value_is (value_as k l r behind) (sym x)) at (whole k refl)) ∙ by_kind k refl
 
     pub none_stored : ◌≡◌ {A = code.Option ℕ} None (option_of (value_as k l r behind)) → bs ≡ store_of l bs r behind
     unfolding whole_in
-    none_stored x = (rw (none_of (value_as k l r behind) x) at (whole k refl)) ∙ by_kind k refl
+    none_stored x = (rw (none_is (value_as k l r behind) (sym x)) at (whole k refl)) ∙ by_kind k refl

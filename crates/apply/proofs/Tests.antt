@@ -1,11 +1,11 @@
 -- What the tests of a relocation say of it, and its value in two steps.
-use Rattle.std.proofs.Common.{◌≡◌, ℕ, ◌+◌, ◌-◌, ◌*◌, ◌^◌, ◌<◌, ◌≤◌, ◌&&◌, T, eqb, leb, ℤ, pos, ◌-ℤ◌, refl, ap, arith}
+use Rattle.std.proofs.Common.{◌≡◌, ℕ, ◌+◌, ◌-◌, ◌*◌, ◌^◌, ◌<◌, ◌≤◌, ◌&&◌, T, eqb, leb, ℤ, pos, ◌-ℤ◌, refl, sym, ap, arith}
 use mathlib.Core.Option.{Option, none, some}
 use mir.Facts.{eqb_yes, and_yes, leb_yes}
 use Rattle.std.specs.Prelude as code
 use Rattle.std.specs.Prelude.{Some, None}
 use Rattle.format.specs.Prelude.{after}
-use Rattle.format.proofs.Asked.{option_of}
+use Rattle.format.proofs.Asked.{option_of, none_is, value_is}
 use Rattle.format.proofs.FieldsBack.{word_small}
 use Rattle.format.specs.Lists.{Relocation}
 use Rattle.format.specs.Questions.{is_some}
@@ -18,16 +18,6 @@ use Rattle.apply.specs.Fields.{up_to, signed32}
 use Rattle.apply.specs.Values.{Layout, address_of, sum_of, value_as}
 use Rattle.apply.specs.Apply.{paired, value_ok, sound}
 use Rattle.apply.specs.Standing.{true_value, fitted}
-
--- ---- a value, where the code has one
-
-pub some_of : {A : Type 0} (o : Option A) {a : A} → Some a ≡ option_of o → o ≡ some a
-some_of none e = cc
-some_of (some m) e = cc
-
-pub none_of : {A : Type 0} (o : Option A) → ◌≡◌ {A = code.Option A} None (option_of o) → o ≡ none
-none_of none e = refl
-none_of (some m) e = cc
 
 -- ---- the sizes of fields
 
@@ -83,22 +73,22 @@ unfolding after
 base_taken none b f = refl
 base_taken (some z) b f = refl
 
-value_is : (k : Kind) (l : Layout) (r : Relocation) (behind : Option Relocation) → after (true_value k l r behind) (fitted k r.bytes) ≡ value_as k l r behind
+fitted_value : (k : Kind) (l : Layout) (r : Relocation) (behind : Option Relocation) → after (true_value k l r behind) (fitted k r.bytes) ≡ value_as k l r behind
 unfolding true_value fitted value_as after
-value_is Data l r behind = base_taken (sum_of l.symbols r) (pos (l.section + r.place)) signed32
-value_is Address l r behind = refl
-value_is SumPlus l r behind = refl
-value_is SumMinus l r behind = refl
-value_is Image l r behind = base_taken (sum_of l.symbols r) (pos l.image) (up_to (2 ^ (8 * r.bytes) - 1))
-value_is (Set w) l r behind = refl
-value_is (Sub w) l r behind = refl
-value_is Unknown l r behind = refl
+fitted_value Data l r behind = base_taken (sum_of l.symbols r) (pos (l.section + r.place)) signed32
+fitted_value Address l r behind = refl
+fitted_value SumPlus l r behind = refl
+fitted_value SumMinus l r behind = refl
+fitted_value Image l r behind = base_taken (sum_of l.symbols r) (pos l.image) (up_to (2 ^ (8 * r.bytes) - 1))
+fitted_value (Set w) l r behind = refl
+fitted_value (Sub w) l r behind = refl
+fitted_value Unknown l r behind = refl
 
 module _ (k : Kind) (l : Layout) (r : Relocation) (behind : Option Relocation) where
   pub no_value : ◌≡◌ {A = code.Option ℤ} None (option_of (true_value k l r behind)) → ◌≡◌ {A = code.Option ℕ} None (option_of (value_as k l r behind))
   unfolding after
-  no_value e = rw (none_of (true_value k l r behind) e) at (ap option_of (value_is k l r behind))
+  no_value e = rw (none_is (true_value k l r behind) (sym e)) at (ap option_of (fitted_value k l r behind))
 
   pub value_fitted : (z : ℤ) → Some z ≡ option_of (true_value k l r behind) → option_of (fitted k r.bytes z) ≡ option_of (value_as k l r behind)
   unfolding after
-  value_fitted z e = rw (some_of (true_value k l r behind) e) at (ap option_of (value_is k l r behind))
+  value_fitted z e = rw (value_is (true_value k l r behind) (sym e)) at (ap option_of (fitted_value k l r behind))

@@ -1,5 +1,5 @@
 -- The code's relocations as the definitions' records, and what stands beside one in a list of numbers.
-use Rattle.std.specs.Prelude.{ℕ, ◌+◌, ◌-◌, ◌*◌, ◌%◌, ◌^◌, ◌≤◌, ◌<◌, List, ℤ, pos, neg_ℤ, ◌-ℤ◌, ◌≤ℤ◌, ◌<ℤ◌, ◌==◌, ◌≢◌, Some, None, Ok, Err, nat_lt}
+use Rattle.std.specs.Prelude.{ℕ, ◌+◌, ◌-◌, ◌*◌, ◌%◌, ◌^◌, ◌≤◌, ◌<◌, List, ℤ, pos, neg_ℤ, ◌-ℤ◌, ◌≤ℤ◌, ◌<ℤ◌, ◌==◌, Some, None, Ok, Err, nat_lt}
 use Rattle.std.specs.Prelude as code
 use Rattle.std.proofs.Math.Option.{Option, none, some}
 use Rattle.format.specs.Prelude.{pick, after}
@@ -60,10 +60,6 @@ fitted Unknown n z = up_to (2 ^ (8 * n) - 1) z
 unfoldable pub patched : Width → (made : ℕ → ℕ → ℕ) → List ℕ → ℕ → Option ℤ → List ℕ
 patched w made bs p none = bs
 patched w made bs p (some z) = in_field w bs p (made (field_at w bs p) (low_of 64 z) % 2 ^ bits_of w)
-
--- the bytes of a field of Set and Sub: 1, 2 or 4
-abbrev pub FieldSize : ℕ → Type 0
-FieldSize n = (0 < n) × (n < 5) × (n ≢ 3)
 
 -- 0, or the number of the question that was answered by no
 abbrev pub answer_of : code.Result Unit ℕ → ℕ

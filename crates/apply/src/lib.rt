@@ -1,33 +1,32 @@
 // Relocations applied: a section put in place (request W-211). `Reloc` is ported from rucc-asm/src/unwind.rs of tamnd/rucc, changed: see NOTICE; the rest is added.
 #![tactic(auto)]
 
-ghost use Rattle.std.specs.Prelude.{◌≡◌, ℕ, ◌+◌, ◌^◌, ◌<◌, ◌≤◌, T, length, pos, ◌+ℤ◌, ◌-ℤ◌, ◌≤ℤ◌, ◌<ℤ◌, IfSome};
+ghost use Rattle.std.specs.Prelude.{◌≡◌, ℕ, ◌+◌, ◌^◌, ◌<◌, ◌≤◌, T, length, pos, ◌-ℤ◌, ◌≤ℤ◌, ◌<ℤ◌, IfSome};
 ghost use Rattle.std.proofs.Math.Option.{none, some};
-ghost use Rattle.std.specs.Int.{w64};
-ghost use Rattle.std.proofs.Common.{to_z};
 ghost use Rattle.format.specs.Prelude.{after};
 ghost use Rattle.format.specs.Coded.{numbered};
 ghost use Rattle.format.specs.Lists.{count, relocation_stride, relocation_at, relocations_of};
 ghost use Rattle.format.proofs.Asked.{option_of};
 ghost use Rattle.apply.specs.Kinds.{kind_of, bits_of, bytes_of, size_ok};
-ghost use Rattle.apply.specs.Fields.{up_to, signed32, low_of, number_at};
+ghost use Rattle.apply.specs.Fields.{up_to, signed32, number_at};
 ghost use Rattle.apply.specs.Values.{symbols_of, address_of, sum_of, apart, value_as, distance_of, store_of};
 ghost use Rattle.apply.specs.Apply.{partners, paired, value_ok, near_as, sound, near, everywhere, stores, apply, Applies};
-ghost use Rattle.apply.specs.Standing.{meant, placed, beside, before_at, behind_at, FieldSize, SumRange, true_value, fitted, patched, answer_of};
+ghost use Rattle.apply.specs.Standing.{meant, placed, beside, before_at, behind_at, SumRange, true_value, fitted, patched, answer_of};
 
 use format::Question;
 
 // The width of a field that Set and Sub patch, in bits.
 #[derive(Clone, Copy)]
 pub enum Width {
-    W6,
-    W8,
-    W16,
-    W32,
+    W6 = 6,
+    W8 = 8,
+    W16 = 16,
+    W32 = 32,
 }
 
 // What a relocation is by its number.
-// Kept: Unknown is a case of the definitions too (specs/Kinds.antt), each of which has a line for it; an Option would be one more case in each.
+// Kept: Unknown, and no Option of a kind. Nine definitions of specs/ have one line for it each. With an Option these lines go, but the 13 others of
+// `kind_of` get a `some`, and `sound`, `near` and `store_of` two cases each for what a missing kind gives, in specs/ and here.
 #[derive(Clone, Copy)]
 pub enum Kind {
     Data,
@@ -86,12 +85,7 @@ impl Width {
     fn bits(self) -> u64
         ensures { result ≡ bits_of self }
     {
-        match self {
-            Width::W6 => 6,
-            Width::W8 => 8,
-            Width::W16 => 16,
-            Width::W32 => 32,
-        }
+        self as u64
     }
 
     // 2 to the bits.
@@ -366,23 +360,18 @@ impl Placement<'_> {
 
 // ---- stores
 
-// The number in a field's bytes, which are 1, 2 or 4.
-fn number_at(copy: &[u8], p: usize, n: u64) -> u64
-    requires { (p + n ≤ length copy.now) × FieldSize n }
-    ensures { (result ≡ number_at copy.now p n) × (result < 4294967296) }
+// The number in the bytes of a field of that width.
+fn number_at(copy: &[u8], p: usize, w: Width) -> u64
+    requires { p + bytes_of w ≤ length copy.now }
+    ensures { (result ≡ number_at copy.now p (bytes_of w)) × (result < 4294967296) }
 {
-    match n {
-        1 => u64::from(copy[p]),
-        2 => u64::from(u16::from_le_bytes([copy[p], copy[p + 1]])),
-        _ => u64::from(u32::from_le_bytes([copy[p], copy[p + 1], copy[p + 2], copy[p + 3]])),
+    match w {
+        Width::W6 | Width::W8 => u64::from(copy[p]),
+        Width::W16 => u64::from(u16::from_le_bytes([copy[p], copy[p + 1]])),
+        Width::W32 => {
+            u64::from(u32::from_le_bytes([copy[p], copy[p + 1], copy[p + 2], copy[p + 3]]))
+        }
     }
-}
-
-// The low 64 bits of an address plus an addend.
-fn low_sum(address: u64, addend: u64) -> u64
-    ensures { result ≡ low_of 64 (pos address +ℤ to_z w64 addend) }
-{
-    std::num::wrapping_add_u64(address, addend)
 }
 
 impl Placement<'_> {
@@ -397,8 +386,8 @@ impl Placement<'_> {
         };
         let m = w.modulus();
         let place = r.place as usize;
-        let old = number_at(copy, place, w.bytes());
-        let v = made(old % m, low_sum(s, r.addend)) % m;
+        let old = number_at(copy, place, w);
+        let v = made(old % m, s.wrapping_add(r.addend)) % m;
         leb::le(copy, place, w.bytes() as usize, old / m * m + v);
     }
 

@@ -29,25 +29,25 @@ pub record Alike (word : ℕ) (e d : Entry) : Type 0 where
   pub same_second : second d.body ≡ second e.body
   pub same_header : T (is_header false e) → parse_header false word d.body ≡ parse_header false word e.body
 
-abbrev pub Alikes : ℕ → List Entry → List Entry → Type 0
-Alikes word [] [] = Unit {0}
-Alikes word [] (d ∷ ds) = ⊥
-Alikes word (e ∷ es) [] = ⊥
-Alikes word (e ∷ es) (d ∷ ds) = Alike word e d × Alikes word es ds
+abbrev pub AllAlike : ℕ → List Entry → List Entry → Type 0
+AllAlike word [] [] = Unit {0}
+AllAlike word [] (d ∷ ds) = ⊥
+AllAlike word (e ∷ es) [] = ⊥
+AllAlike word (e ∷ es) (d ∷ ds) = Alike word e d × AllAlike word es ds
 
 module _ (word : ℕ) where
-  pub alikes_join : (es ds es' ds' : List Entry) → Alikes word es ds → Alikes word es' ds' → Alikes word (es ++ es') (ds ++ ds')
-  alikes_join [] [] es' ds' a b = b
-  alikes_join [] (d ∷ ds) es' ds' a b = absurd a
-  alikes_join (e ∷ es) [] es' ds' a b = absurd a
-  alikes_join (e ∷ es) (d ∷ ds) es' ds' a b = (a.0, alikes_join es ds es' ds' a.1 b)
+  pub all_alike_join : (es ds es' ds' : List Entry) → AllAlike word es ds → AllAlike word es' ds' → AllAlike word (es ++ es') (ds ++ ds')
+  all_alike_join [] [] es' ds' a b = b
+  all_alike_join [] (d ∷ ds) es' ds' a b = absurd a
+  all_alike_join (e ∷ es) [] es' ds' a b = absurd a
+  all_alike_join (e ∷ es) (d ∷ ds) es' ds' a b = (a.0, all_alike_join es ds es' ds' a.1 b)
 
   pub header_same : (e d : Entry) → Alike word e d → is_header false d ≡ is_header false e
   unfolding is_header
   header_same e d a = ap (λ (n : ℕ). eqb n (header_id false)) a.same_second
 
   -- a test that says the same of both finds the same
-  first_alike : (test : Entry → Bool) → ((e d : Entry) → Alike word e d → test d ≡ test e) → (es ds : List Entry) (h : Entry) → Alikes word es ds
+  first_alike : (test : Entry → Bool) → ((e d : Entry) → Alike word e d → test d ≡ test e) → (es ds : List Entry) (h : Entry) → AllAlike word es ds
       → first test es ≡ some h → (d : Entry) × ((first test ds ≡ some d) × Alike word h d)
   unfolding first
   first_alike test same [] [] h a q = let z : ◌≡◌ {A = ℕ} 0 1 = cc in absurd (omega arith)
@@ -64,7 +64,7 @@ module _ (word : ℕ) where
       let i = first_alike test same es ds h a.1 (sym (pick_no (test e) (some e) (first test es) t) ∙ q) in
       (i.0, (rw s (pick_no (test e) (some d) (first test ds) t ∙ i.1.0), i.1.1)))
 
-  pub header_alike : (place before : ℕ) (es ds : List Entry) (h : Entry) → Alikes word es ds → header_at false place before es ≡ some h
+  pub header_alike : (place before : ℕ) (es ds : List Entry) (h : Entry) → AllAlike word es ds → header_at false place before es ≡ some h
       → (d : Entry) × ((header_at false place before ds ≡ some d) × Alike word h d)
   unfolding header_at
   header_alike place before es ds h a q =
@@ -81,7 +81,7 @@ module _ (word : ℕ) where
   Chain at [] = Unit {0}
   Chain at (e ∷ es) = (e.at ≡ at) × (4 ≤ length e.body) × (length e.body < 2 ^ 32) × Chain (at + 4 + length e.body) es
 
-  pub chain_alike : (at : ℕ) (es ds : List Entry) → Alikes word es ds → Chain at es → Chain at ds
+  pub chain_alike : (at : ℕ) (es ds : List Entry) → AllAlike word es ds → Chain at es → Chain at ds
   chain_alike at [] [] a c = tt
   chain_alike at [] (d ∷ ds) a c = absurd a
   chain_alike at (e ∷ es) [] a c = absurd a

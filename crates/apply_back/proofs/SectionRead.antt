@@ -36,7 +36,7 @@ use Rattle.apply_back.proofs.StepsBack.{stepped_with, StepsHold, moved_back}
 use Rattle.apply_back.proofs.RecordPlaced.{place_filled, pointer_filled, placed_body, body_is, record_length, fields_read, fields_second}
 use Rattle.apply_back.proofs.HeaderPlaced.{same_length, same_second, same_fields}
 use Rattle.apply_back.proofs.SectionPlaced.{flat, header_fits, front_placed, record_placed, placed_entries}
-use Rattle.apply_back.proofs.Alike.{Alike, Alikes, alikes_join, header_same, header_alike, distance_same, chain_alike, chain_entries, written_chain}
+use Rattle.apply_back.proofs.Alike.{Alike, AllAlike, all_alike_join, header_same, header_alike, distance_same, chain_alike, chain_entries, written_chain}
 
 module _ (l : Layout) (size : ℕ) (m : Machine) (fit : MachineFits m) where
   abbrev word : ℕ
@@ -45,7 +45,7 @@ module _ (l : Layout) (size : ℕ) (m : Machine) (fit : MachineFits m) where
   -- ---- the entries put in place are like those that were written
 
   front_alike : (o : Option ℕ) (align at : ℕ) (k : Key) (ok : HeaderOk false m k)
-      → Alikes word (front_entries Elf m o align at k) (front_placed l size m fit o align at k ok)
+      → AllAlike word (front_entries Elf m o align at k) (front_placed l size m fit o align at k ok)
   unfolding is_debug front_entries front_placed header_entry
   front_alike none align at k ok = (
     record {
@@ -73,12 +73,12 @@ module _ (l : Layout) (size : ℕ) (m : Machine) (fit : MachineFits m) where
       }
 
   pub placed_alike : (at sites : ℕ) (seen : List Seen) (fs : List Function) (ok : AllFit Elf m fs) → FieldsHold Elf m at seen fs
-      → Alikes word (entries_of Elf m at seen fs) (placed_entries l size m fit at sites seen fs ok)
+      → AllAlike word (entries_of Elf m at seen fs) (placed_entries l size m fit at sites seen fs ok)
   unfolding entries_of placed_entries
   placed_alike at sites seen [] ok h = tt
   placed_alike at sites seen (f ∷ fs) ok h =
       let x : Spot = spot_of Elf m at seen f fs in
-      alikes_join word (front_entries Elf m x.earlier x.align x.start (key_of m f)) _ _ _
+      all_alike_join word (front_entries Elf m x.earlier x.align x.start (key_of m f)) _ _ _
       (front_alike x.earlier x.align x.start (key_of m f) (header_fits l size m fit f ok.0))
       (record_alike x sites f ok.0 h.0, placed_alike (next_at Elf m at seen f fs) (next_sites sites f) (next_seen Elf m at seen f fs) fs ok.1 h.1)
 
@@ -168,7 +168,7 @@ module _ (l : Layout) (size : ℕ) (m : Machine) (fit : MachineFits m) where
       let h : Holds Elf m x f = record_holds Elf m fs fit ok bound k f at_k in
       let es : List Entry = entries_of Elf m 0 [] fs in
       let ds : List Entry = placed_entries l size m fit 0 0 [] fs ok in
-      let alike : Alikes word es ds = placed_alike 0 0 [] fs ok hold in
+      let alike : AllAlike word es ds = placed_alike 0 0 [] fs ok hold in
       let found = found_placed 0 0 [] fs ok k f hold at_k in
       let own : Entry = record_placed l size m fit x found.0 f found.1.0 in
       let same : Alike word (record_entry Elf m x f) own = record_alike x found.0 f found.1.0 h in

@@ -1,5 +1,4 @@
 -- Worked examples of the definitions.
-pub mod Coded
 pub mod CodeBytes
 pub mod Examples
 pub mod WriterExamples

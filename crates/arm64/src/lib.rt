@@ -13,8 +13,8 @@ pub mod packed_bits;
 
 // A code: its kind, 0 to 17 in the source's order, its register by number (x19 is 19, d8 is 8) and its offset or size in bytes. An operand that the
 // kind does not have is 0.
-// Kept: the kinds are numbers, and no enum: a code is read out of C's list anew wherever one is wanted, as there is no buffer to decode a list into, so
-// each reading would convert and could fail, and each store convert back. The definitions have these numbers and order forms and operands by them.
+// Kept: the kinds are numbers, and no enum. C's lists have numbers, and without a heap no list is decoded once: each of the six loops over a run (question
+// 83, sizes, bytes, runs compared, counts, places) would turn each number into a variant, and public functions that take any code would refuse or panic.
 #[derive(Clone, Copy, PartialEq, Eq)]
 pub struct Code {
     pub kind: u64,
@@ -72,8 +72,8 @@ pub const PAC_SIGN_LR: u64 = 17;
 // The code that ends a run of codes: a form has this kind, a list of codes never.
 pub const END: u64 = 18;
 // A first byte that `describe` never writes.
-// Kept: a form of this kind, and no None: `code_fits` and `code_size` of arm64_spelled answer by this form for a code whose kind is no kind, and would
-// each have a case of its own for None that says the same.
+// Kept: a form of this kind, and no None: `code_fits` and `code_size` of arm64_spelled take any code, and by the definition (`form_for`) one of no kind has
+// one byte and no register. With Option<Form> arm64_codes' `code_at` would match in place of its test, and `Spelling` turn None back into this form.
 pub const RESERVED: u64 = 19;
 
 // How a code is spelled: `size` bytes, of which the first is `op` where every field is 0. Behind op stands one number, first byte highest: the
@@ -118,8 +118,9 @@ impl Epilogues {
 
 // A full record's header: the length in instructions, the handler's mark X, the epilogues, the words of codes, and the place past the header, where
 // the epilogues' words start.
-// Kept: no invariant on the fields' widths, here and in Packed: the definitions make a Header of any numbers (`header_with`) and a Packed of any counts
-// (`tally`), so each would ask for widths that it does not need. A word whose fields are read or checked is arm64_packed's `Word`, which has them.
+// Kept: no invariant on the fields' widths, here and in Packed. The definitions read both out of any numbers: `short_header` of any w has w / 2^27 words, and
+// `packed_of` a frame of w / 2^23. A width in the type would make `header_with`, `short_header`, `long_header`, `header_at`, `packed_of` and `tally` ask that a
+// list holds bytes, and so `read_arm64` and the theorems on it. What was read has its widths in arm64_records' `Record` and arm64_packed's `Word`.
 #[derive(Clone, Copy)]
 pub struct Header {
     pub length: u64,
@@ -130,7 +131,7 @@ pub struct Header {
 }
 
 // A packed word: the flag (1 a function, 2 a fragment), the length in instructions, RegF, RegI, H, CR and the frame's size in 16 bytes.
-// Kept: all fields as numbers: the word is the sum of them, sizes are computed from H and CR, and the writer counts in them.
+// Kept: H and CR as numbers: `packed_of` reads them as w / 2^20 % 2 and w / 2^21 % 4, `saved_size` has 64 times H, and the word is the sum of all fields.
 #[derive(Clone, Copy)]
 pub struct Packed {
     pub flag: u64,
@@ -146,7 +147,7 @@ pub struct Packed {
 // many codes in all.
 // Kept: a number beside the fields, and no Result: C reads the fields.
 #[repr(C)]
-#[derive(Clone, Copy)]
+#[derive(Clone, Copy, Default)]
 pub struct Arm64Reading {
     pub number: u64,
     pub length: u64,

@@ -11,6 +11,7 @@ use arm64::{Code, Form};
 
 // ---- how a code is spelled, by its first byte
 
+// Kept: eight numbers in a row. They stand as in the definition's `form`, so that each line below can be compared with the definition's.
 fn spelling(
     kind: u64,
     op: u64,
@@ -119,8 +120,8 @@ fn field_at(f: Form, s: &[u8], at: usize) -> u64
 {
     match f.size {
         1 => u64::from(s[at]) - f.op,
-        2 => 256 * (u64::from(s[at]) - f.op) + u64::from(s[at + 1]),
-        _ => { 65536 * u64::from(s[at + 1]) + 256 * u64::from(s[at + 2]) + u64::from(s[at + 3]) }
+        2 => u64::from(u16::from_be_bytes([s[at], s[at + 1]])) - 256 * f.op,
+        _ => u64::from(u32::from_be_bytes([0, s[at + 1], s[at + 2], s[at + 3]])),
     }
 }
 

@@ -1,9 +1,12 @@
 -- Runs of their own: what loops over a function's epilogues know.
-use mathlib.Core.Path.{◌≡◌, refl, sym, ap, ◌∙◌}
-use mathlib.Core.Bool.{Bool, true, false, ◌&&◌, ◌||◌}
+use mathlib.Core.Path.{◌≡◌, refl, sym, ap, subst, ◌∙◌}
+use mathlib.Core.Bool.{Bool, true, false, cond, ◌&&◌, ◌||◌}
 use mathlib.Core.List.{List, [], ◌∷◌, ◌++◌, append-nil, append_assoc}
-use Prim.Native.Nat.{ℕ, suc, ◌+◌, ◌-◌, ◌≤◌, ◌<◌}
+use Prim.Native.Nat.{ℕ, zero, suc, ◌+◌, ◌-◌, ◌≤◌, ◌<◌}
 use native.Mathlib.Omega.{arith}
+use Rattle.std.specs.List.{find}
+use Rattle.std.specs.Option.{option_map}
+use Rattle.arm64_function.proofs.Backwards.{backwards_from, same_option}
 use lib.ListN.{length, length-append}
 use borrow.Author.Tests.{lt-ltb, le-ltb, eq-eqb}
 use Rattle.format.specs.Prelude.{pick, each}
@@ -120,37 +123,24 @@ pub prologue_is : (cs : List ℕ) (p : Parts) {s : List Code} → s ≡ saves cs
 unfolding prologue_in
 prologue_is cs p e = ap (simplify no_pair) e
 
-module _ {es cs : List ℕ} {p : Parts} {i j : ℕ} (s : Searching es cs p i j) (h : p.first < j) where
-  here : is_in (run_at es cs i) (seen_at es cs p i) ≡ (same_codes (run_at es cs i) (run_at es cs (j - 1)) || is_in (run_at es cs i) (seen_at es cs p (j - 1)))
+module _ {es cs : List ℕ} {p : Parts} {i j : ℕ} (s : Searching es cs p i (j + 1)) (h : p.first ≤ j) where
+  here : is_in (run_at es cs i) (seen_at es cs p i) ≡ (same_codes (run_at es cs i) (run_at es cs j) || is_in (run_at es cs i) (seen_at es cs p j))
   here =
-      let e : j - p.first ≡ (j - 1 + 1) - p.first = omega (arith, h) in
-      s.rest ∙ ap (λ (m : ℕ). is_in (run_at es cs i) (seen_from (run_at es cs) p.first m)) e
-      ∙ ap (is_in (run_at es cs i)) (seen_next [] (run_at es cs) p.first 0 (j - 1) (omega (arith, h)))
-      ∙ is_in_first (run_at es cs i) (run_at es cs (j - 1)) (seen_at es cs p (j - 1))
+      s.rest ∙ ap (is_in (run_at es cs i)) (seen_next [] (run_at es cs) p.first 0 j h)
+      ∙ is_in_first (run_at es cs i) (run_at es cs j) (seen_at es cs p j)
 
-  module _ {run other : List Code} {b : Bool} (e : run ≡ saves cs (epilogue_at es i)) (g : other ≡ saves cs (epilogue_at es (j - 1)))
-      (k : b ≡ same_codes (simplify no_pair run) (simplify no_pair other)) where
-    answered : b ≡ same_codes (run_at es cs i) (run_at es cs (j - 1))
-    answered =
-        k ∙ ap (λ x. same_codes x (simplify no_pair other)) (run_is es cs i e) ∙ ap (same_codes (run_at es cs i)) (run_is es cs (j - 1) g)
+  searching_turn : same_codes (run_at es cs i) (run_at es cs j) ≡ false → Searching es cs p i j
+  searching_turn n =
+      record { low = h; high = omega (arith, s.high); rest = here ∙ ap (λ x. x || is_in (run_at es cs i) (seen_at es cs p j)) n }
 
-    pub searching_turn : b ≡ false → Searching es cs p i (j - 1)
-    searching_turn n =
-        record {
-          low = omega (arith, h);
-          high = omega (arith, s.high);
-          rest = here ∙ ap (λ x. x || is_in (run_at es cs i) (seen_at es cs p (j - 1))) (sym answered ∙ n);
-        }
-
-    pub searching_found : b ≡ true → Nearest es cs p i (j - 1)
-    searching_found y =
-        record {
-          low = omega (arith, h);
-          high = omega (arith, s.high);
-          same = λ l. equal_all (run_at es cs i) (run_at es cs (j - 1)) (sym answered ∙ y);
-          seen = here ∙ ap (λ x. x || is_in (run_at es cs i) (seen_at es cs p (j - 1))) (sym answered ∙ y)
-              ∙ sym (lt-ltb (j - 1) i (omega (arith, s.high, h)));
-        }
+  searching_found : same_codes (run_at es cs i) (run_at es cs j) ≡ true → Nearest es cs p i j
+  searching_found y =
+      record {
+        low = h;
+        high = omega (arith, s.high);
+        same = λ l. equal_all (run_at es cs i) (run_at es cs j) y;
+        seen = here ∙ ap (λ x. x || is_in (run_at es cs i) (seen_at es cs p j)) y ∙ sym (lt-ltb j i (omega (arith, s.high)));
+      }
 
 pub searching_ended : {es cs : List ℕ} {p : Parts} {i j : ℕ} → Searching es cs p i j → j ≤ p.first → Nearest es cs p i i
 searching_ended {es} {cs} {p} {i} {j} s h =
@@ -162,6 +152,31 @@ searching_ended {es} {cs} {p} {i} {j} s h =
       seen = s.rest ∙ ap (λ (m : ℕ). is_in (run_at es cs i) (seen_from (run_at es cs) p.first m)) e ∙ is_in_none (run_at es cs) (run_at es cs i) p.first
           ∙ sym (le-ltb i i (omega arith));
     }
+
+module _ (es cs : List ℕ) (p : Parts) (i : ℕ) where
+  -- epilogue j has the run of epilogue i
+  abbrev pub same_at : ℕ → Bool
+  same_at j = same_codes (run_at es cs i) (run_at es cs j)
+
+  abbrev pub Near : Option ℕ → Type 0
+  Near r = Nearest es cs p i (unwrap_or r i) × IfSome r (λ j. j < i)
+
+  near_step : (n : ℕ) (b : Bool) → same_at (p.first + n) ≡ b → Searching es cs p i (p.first + n + 1)
+      → (Searching es cs p i (p.first + n) → Near (find same_at (backwards_from p.first n))) → Near (cond b (Some (p.first + n)) (find same_at (backwards_from p.first n)))
+  near_step n true e s h = (searching_found s (omega arith) e, omega (arith, s.high))
+  near_step n false e s h = h (searching_turn s (omega arith) e)
+
+  near_from : (n : ℕ) → Searching es cs p i (p.first + n) → Near (find same_at (backwards_from p.first n))
+  near_from zero s = (searching_ended s (omega arith), tt)
+  near_from (suc n) s =
+      let e : p.first + suc n ≡ p.first + n + 1 = omega arith in
+      near_step n (same_at (p.first + n)) refl (subst (Searching es cs p i) e s) (near_from n)
+
+  -- the search from epilogue i back
+  pub near_found : p.first ≤ i → (r : Option ℕ) → option_map (λ x. x) r ≡ find same_at (backwards_from p.first (i - p.first)) → Near r
+  near_found h r e =
+      let g : i ≡ p.first + (i - p.first) = omega (arith, h) in
+      subst Near (sym (same_option r ∙ e)) (near_from (i - p.first) (subst (Searching es cs p i) g (searching_start h)))
 
 -- by whether one was found
 pub near_some : (r : Option ℕ) (i : ℕ) → IfSome r (λ j. j < i) → is_some r ≡ true → unwrap_or r i < i

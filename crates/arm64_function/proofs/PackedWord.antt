@@ -4,10 +4,9 @@ use mathlib.Core.Bool.{Bool, true, false, ◌&&◌, ◌||◌, and-true, and-fals
 use mathlib.Core.List.{List, [], ◌∷◌, ◌++◌, append-nil}
 use Prim.Native.Nat.{ℕ, zero, suc, ◌+◌, ◌-◌, ◌*◌, ◌/◌, ◌%◌, ◌^◌, ◌≤◌, ◌<◌}
 use native.Mathlib.Omega.{arith}
-use native.Mathlib.Nat.{add-zero}
 use lib.Dec.{T, leb, ltb, eqb}
-use lib.ListN.{length, get_or}
-use borrow.Author.Tests.{leb-true, le-leb, lt-leb, ltb-true, eq-eqb, ne_eqb}
+use lib.ListN.{length}
+use borrow.Author.Tests.{leb-true, le-leb, lt-leb, ltb-true}
 use Rattle.std.specs.Prelude.{Option, Some, None}
 use Rattle.format.specs.Prelude.{pick, each}
 use Rattle.format.specs.Lists.{all_in, field}
@@ -160,14 +159,14 @@ module _ (cs : List ℕ) (left : ℕ) (p e : Run) where
   abbrev epilogue : List Code
   epilogue = simplify no_pair (saves cs e)
 
-  pub not_last : (left ≡ e.count + 1 → ⊥) → false ≡ shared_in cs left p e
+  pub not_last : eqb left (e.count + 1) ≡ false → false ≡ shared_in cs left p e
   unfolding shared_in
-  not_last h = simp (ne_eqb left (e.count + 1) h)
+  not_last h = simp h
 
-  module _ (h : left ≡ e.count + 1) where
+  module _ (h : eqb left (e.count + 1) ≡ true) where
     pub not_leading : leads epilogue prologue ≡ false → false ≡ shared_in cs left p e
     unfolding shared_in
-    not_leading g = simp (eq-eqb left (e.count + 1) h, g)
+    not_leading g = simp (h, g)
 
     module _ (g : leads epilogue prologue ≡ true) {n : ℕ} (s : n ≡ length (backwards prologue)) where
       pub too_long : 123 < n → false ≡ shared_in cs left p e
@@ -183,7 +182,7 @@ module _ (cs : List ℕ) (left : ℕ) (p e : Run) where
         by_index l =
             let z : n - m ≡ run_size prologue - run_size epilogue = omega (arith, run_size_lem prologue, run_size_lem epilogue, s, t) in
             ap (λ (d : ℕ). leb d 31) z
-            ∙ simp (eq-eqb left (e.count + 1) h, g, le-leb (run_size prologue) 124 (omega (arith, run_size_lem prologue, s, l)), and-true)
+            ∙ simp (h, g, le-leb (run_size prologue) 124 (omega (arith, run_size_lem prologue, s, l)), and-true)
 
 -- ---- the word of an only epilogue
 
@@ -192,18 +191,14 @@ module _ (es cs : List ℕ) (p : Parts) (size : ℕ) where
   e = epilogue_at es p.first
 
   abbrev code_left : ℕ
-  code_left = (size - get_or es (3 * p.first) 0) / 4
-
-  shared_is : shared_in cs code_left p.prologue e ≡ shared_in cs (instructions (size - field epilogue_stride es p.first 0)) p.prologue e
-  unfolding instructions
-  shared_is = ap (λ (n : ℕ). shared_in cs ((size - get_or es n 0) / 4) p.prologue e) (sym (add-zero (3 * p.first)))
+  code_left = instructions (size - field epilogue_stride es p.first 0)
 
   abbrev stands : Bool
   stands = stands_for (candidate (instructions size) (prologue_in cs p)) (prologue_in cs p) (run_at es cs p.first)
 
   pub unshared : shared_in cs code_left p.prologue e ≡ false → None ≡ packed_at es cs p size
   unfolding packed_at pick
-  unshared g = sym (ap (λ b. pick (b && stands) (Some (packed_word (candidate (instructions size) (prologue_in cs p)))) None) (sym shared_is ∙ g))
+  unshared g = sym (ap (λ b. pick (b && stands) (Some (packed_word (candidate (instructions size) (prologue_in cs p)))) None) g)
 
   abbrev P₁ : List Code
   P₁ = simplify no_pair (saves cs p.prologue)
@@ -216,10 +211,7 @@ module _ (es cs : List ℕ) (p : Parts) (size : ℕ) where
       k
       ∙ ap (λ x. pick (stands_for (candidate (size / 4) (simplify no_pair x)) (simplify no_pair x) (simplify no_pair t)) (Some (packed_word (candidate (size / 4) (simplify no_pair x)))) None) a
       ∙ ap (λ x. pick (stands_for (candidate (size / 4) P₁) P₁ (simplify no_pair x)) (Some (packed_word (candidate (size / 4) P₁))) None) b
-      ∙ sym (ap (λ b. pick (b && stands) (Some (packed_word (candidate (size / 4) P₁))) None) (sym shared_is ∙ g))
-
-  pub only_start : Only es cs p size → get_or es (3 * p.first) 0 ≤ size
-  only_start o = subst (λ (n : ℕ). get_or es n 0 ≤ size) (add-zero (3 * p.first)) o.start
+      ∙ sym (ap (λ b. pick (b && stands) (Some (packed_word (candidate (size / 4) P₁))) None) g)
 
 -- ---- what the questions have answered
 

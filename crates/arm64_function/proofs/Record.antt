@@ -4,9 +4,8 @@ use mathlib.Core.Bool.{Bool, true, false, ◌&&◌, and-true, and-false}
 use mathlib.Core.List.{List, [], ◌++◌}
 use Prim.Native.Nat.{ℕ, zero, suc, ◌+◌, ◌-◌, ◌*◌, ◌/◌, ◌^◌, ◌≤◌, ◌<◌}
 use native.Mathlib.Omega.{arith}
-use native.Mathlib.Nat.{add-zero}
 use lib.Dec.{leb, ltb, eqb}
-use lib.ListN.{length, get_or, replicate, length-append, length-replicate}
+use lib.ListN.{length, replicate, length-append, length-replicate}
 use borrow.Author.Tests.{leb-true, le-leb, lt-leb, ltb-true, eq-eqb, ne_eqb, eqb-true}
 use Rattle.format.specs.Prelude.{pick, each}
 use Rattle.format.specs.Leb.{little}
@@ -26,7 +25,7 @@ use Rattle.arm64_header.proofs.Forms.{header_is}
 use Rattle.arm64_function.specs.declared.Parts.{Parts}
 use Rattle.arm64_function.specs.declared.Shape.{Shape}
 use Rattle.arm64_function.specs.Listed.{Fine}
-use Rattle.arm64_function.specs.Own.{parts_at, epilogue_at, prologue_in, run_at, codes_in, index_at, word_at, words_from, parts_ok, fits_at, held_to, most_codes}
+use Rattle.arm64_function.specs.Own.{parts_at, prologue_in, run_at, codes_in, index_at, word_at, words_from, parts_ok, fits_at, held_to, most_codes}
 use Rattle.arm64_function.specs.Record.{Whole, single_at, count_at, words_at, Shaped, scopes_at, record_at}
 use Rattle.arm64.proofs.MeaningLaws.{both_true, no_yes}
 use Rattle.std.specs.Prelude.{Option, Some, None}
@@ -100,10 +99,10 @@ module _ (es cs : List ℕ) (p : Parts) (size : ℕ) where
       unfolding single_at
       single_far l = simp (lt-leb (index_at es cs p p.first) 31 (omega (arith, e, l)), and-false)
 
-      pub single_ends : i ≤ 31 → eqb ((size - get_or es (3 * p.first) 0) / 4) (get_or es (3 * p.first + 2) 0 + 1) ≡ single_at es cs p size
-      unfolding single_at instructions
+      pub single_ends : i ≤ 31 → eqb (instructions (size - field epilogue_stride es p.first 0)) (field epilogue_stride es p.first 2 + 1) ≡ single_at es cs p size
+      unfolding single_at
       single_ends l =
-          simp (eq-eqb (p.end - p.first) 1 one, le-leb (index_at es cs p p.first) 31 (omega (arith, e, l)), le-leb (length (codes_in es cs p)) 124 (omega (arith, g, h)), and-true, add-zero)
+          simp (eq-eqb (p.end - p.first) 1 one, le-leb (index_at es cs p p.first) 31 (omega (arith, e, l)), le-leb (length (codes_in es cs p)) 124 (omega (arith, g, h)), and-true)
 
   pub single_one : single_at es cs p size ≡ true → p.end - p.first ≡ 1
   unfolding single_at
@@ -113,15 +112,8 @@ module _ (es cs : List ℕ) (p : Parts) (size : ℕ) where
       && leb (index_at es cs p p.first) 31 && leb (length (codes_in es cs p)) 124) e).0
 
 module _ {es cs : List ℕ} {p : Parts} {size : ℕ} (w : Whole es cs p size) (one : p.end - p.first ≡ 1) where
-  pub start_held : get_or es (3 * p.first) 0 ≤ size
-  start_held =
-      let z = w.starts p.first (omega arith) (omega (arith, one)) in
-      let e : 3 * p.first + 0 ≡ 3 * p.first = omega arith in
-      subst (λ (n : ℕ). get_or es n 0 ≤ size) e (omega (arith, z))
-
-  pub count_held : get_or es (3 * p.first + 2) 0 < 2 ^ 60
-  unfolding epilogue_at
-  count_held = let z = w.ready.inside p.first (omega arith) (omega (arith, one)) in omega (arith, z.low)
+  pub start_held : field epilogue_stride es p.first 0 ≤ size
+  start_held = omega (arith, w.starts p.first (omega arith) (omega (arith, one)))
 
 -- ---- the shape
 

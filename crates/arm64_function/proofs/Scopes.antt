@@ -116,12 +116,9 @@ module _ {xs₀ xs : List ℕ} {to q : ℕ} {es cs : List ℕ} {p : Parts} {next
         omega (arith, s.left.room, ap length (words_first es cs p i l) ∙ length-append (little 4 (word_at es cs p i)) (words_from es cs p (i + 1) (p.end - (i + 1))), little-length 4 (word_at es cs p i))
 
     pub scoping_turn : {ys : List ℕ} {r : ℕ} {t : Scope} → Started es p → (index_at es cs p i ≤ 1020) → (t.index ≡ index_at es cs p i) × (t.next ≡ next + length (runs_bytes (own_at es cs p i)))
-        → Wrote xs ys q r (little 4 (get_or es (3 * i) 0 / 4 + 2 ^ 22 * t.index)) → Scoping xs₀ ys to r es cs p t.next (i + 1)
+        → Wrote xs ys q r (little 4 (field epilogue_stride es i 0 / 4 + 2 ^ 22 * t.index)) → Scoping xs₀ ys to r es cs p t.next (i + 1)
     unfolding word_at instructions
-    scoping_turn {ys} {r} {t} g m u w₀ =
-        let h : 3 * i ≡ 3 * i + 0 = omega arith in
-        let w : Wrote xs ys q r (little 4 (field epilogue_stride es i 0 / 4 + 2 ^ 22 * t.index))
-        = subst (λ (k : ℕ). Wrote xs ys q r (little 4 (get_or es k 0 / 4 + 2 ^ 22 * t.index))) h w₀ in
+    scoping_turn {ys} {r} {t} g m u w =
         let low = s.sum.low in
         let z = g.starts i low l in
         let w' : Wrote xs ys q r (little 4 (field epilogue_stride es i 0 / 4 + 2 ^ 22 * index_at es cs p i))
@@ -144,6 +141,3 @@ module _ {xs₀ xs : List ℕ} {to q : ℕ} {es cs : List ℕ} {p : Parts} {next
 
   pub scoping_ended : p.end ≤ i → Wrote xs₀ xs to q (words_from es cs p p.first (p.end - p.first))
   scoping_ended h = storing.ended (subst (Storing xs₀ xs to q (words_from es cs p p.first (p.end - p.first))) (words_none es cs p i h) s.left)
-
-pub start_low : {es : List ℕ} {p : Parts} {i : ℕ} → Started es p → p.first ≤ i → i < p.end → get_or es (3 * i) 0 < 2 ^ 20
-start_low {es} {p} {i} g a b = let h : 3 * i + 0 ≡ 3 * i = omega arith in subst (λ (k : ℕ). get_or es k 0 < 2 ^ 20) h (g.starts i a b)

@@ -58,8 +58,8 @@ NearestOf f i j = Nearest f.epilogues.now f.codes.now f.parts i j
 abbrev pub values_ok_of : Function → Bool
 values_ok_of f = parts_ok f.epilogues.now f.codes.now f.parts
 
-abbrev pub shared_of : Function → (left : ℕ) → Bool
-shared_of f left = shared_in f.codes.now left f.parts.prologue (epilogue_at f.epilogues.now f.parts.first)
+abbrev pub shared_of : Function → (i left : ℕ) → Bool
+shared_of f i left = shared_in f.codes.now left f.parts.prologue (epilogue_at f.epilogues.now i)
 
 abbrev pub packed_of : Function → Option ℕ
 packed_of f = packed_at f.epilogues.now f.codes.now f.parts f.size

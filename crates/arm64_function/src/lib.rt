@@ -2,7 +2,7 @@
 // rucc-asm/src/xdata.rs (describe) of tamnd/rucc, changed: see NOTICE.
 #![tactic(auto)]
 
-ghost use Rattle.std.specs.Prelude.{◌≡◌, true, ◌&&◌, ◌||◌, ◌+◌, ◌-◌, ◌*◌, ◌^◌, ◌≤◌, ◌<◌, length, Some, None, IfSome};
+ghost use Rattle.std.specs.Prelude.{◌≡◌, true, eqb, ◌&&◌, ◌||◌, ◌+◌, ◌-◌, ◌*◌, ◌^◌, ◌≤◌, ◌<◌, length, Some, None, IfSome};
 ghost use Rattle.format.specs.Prelude.{pick};
 ghost use Rattle.format.specs.Lists.{field, all_in};
 ghost use Rattle.std.specs.Option.{unwrap_or};
@@ -20,11 +20,16 @@ ghost use Rattle.arm64_function.specs.Listed.{function_in, ListedIn, FineIn};
 ghost use Rattle.arm64_function.specs.Record.{Whole};
 ghost use Rattle.arm64_function.specs.Own.{prologue_at, epilogue_at, parts_at, Ready, start_ok_at, fits_at, length_ok, held_to, index_in};
 
-use arm64::{Epilogues, Part, fields, header_bits, limits};
+use arm64::fields::{self, EPILOGUE_STRIDE, FUNCTION_STRIDE};
+use arm64::{Epilogues, Part, header_bits, limits};
 use arm64_header::Header;
 use arm64_lists::Lists;
 use arm64_simple::{Codes, Run};
 use format::{Question, Refusal};
+use lists::record::Record;
+
+// Where an epilogue's record has its start.
+const START: usize = 0;
 
 // A function's codes: its prologue's, and its epilogues from `first` to `end`.
 #[derive(Clone, Copy)]
@@ -34,35 +39,33 @@ pub struct Parts {
     pub end: usize,
 }
 
-fn prologue_at(fs: &[u64], k: usize) -> Run
-    requires { function_stride * k + function_stride ≤ length fs.now }
-    ensures { result ≡ prologue_at fs.now k }
+fn prologue_at(function: &Record<FUNCTION_STRIDE>) -> Run
+    ensures { result ≡ prologue_at function.now.list.now function.now.k }
 {
     Run {
-        at: fs[fields::FUNCTION_STRIDE * k + fields::PROLOGUE_AT] as usize,
-        count: fs[fields::FUNCTION_STRIDE * k + fields::PROLOGUE] as usize,
+        at: function.number(fields::PROLOGUE_AT) as usize,
+        count: function.number(fields::PROLOGUE) as usize,
         part: Part::Prologue,
     }
 }
 
-fn epilogue_at(es: &[u64], i: usize) -> Run
-    requires { epilogue_stride * i + epilogue_stride ≤ length es.now }
-    ensures { result ≡ epilogue_at es.now i }
+fn epilogue_at(epilogue: &Record<EPILOGUE_STRIDE>) -> Run
+    ensures { result ≡ epilogue_at epilogue.now.list.now epilogue.now.k }
 {
     Run {
-        at: es[fields::EPILOGUE_STRIDE * i + fields::CODES_AT] as usize,
-        count: es[fields::EPILOGUE_STRIDE * i + fields::CODES] as usize,
+        at: epilogue.number(fields::CODES_AT) as usize,
+        count: epilogue.number(fields::CODES) as usize,
         part: Part::Epilogue,
     }
 }
 
-fn parts_at(fs: &[u64], k: usize) -> Parts
-    requires { (function_stride * k + function_stride ≤ length fs.now) × (field function_stride fs.now k 4 + field function_stride fs.now k 5 < 2 ^ 64) }
-    ensures { result ≡ parts_at fs.now k }
+fn parts_at(function: &Record<FUNCTION_STRIDE>) -> Parts
+    requires { field function_stride function.now.list.now function.now.k 4 + field function_stride function.now.list.now function.now.k 5 < 2 ^ 64 }
+    ensures { result ≡ parts_at function.now.list.now function.now.k }
 {
-    let prologue = prologue_at(fs, k);
-    let first = fs[fields::FUNCTION_STRIDE * k + fields::EPILOGUES_AT] as usize;
-    let end = first + fs[fields::FUNCTION_STRIDE * k + fields::EPILOGUES] as usize;
+    let prologue = prologue_at(function);
+    let first = function.number(fields::EPILOGUES_AT) as usize;
+    let end = first + function.number(fields::EPILOGUES) as usize;
     Parts {
         prologue,
         first,
@@ -71,11 +74,12 @@ fn parts_at(fs: &[u64], k: usize) -> Parts
 }
 
 // The index in the word at `at`.
+#[tactic(auto, unfolding(crate::specs::Own::index_in))]
 fn index_in(out: &[u8], at: usize) -> usize
     requires { at + 4 ≤ length out.now }
     ensures { result ≡ index_in out.now at }
 {
-    (leb::wide(out[at + 2]) / 64 + 4 * leb::wide(out[at + 3])) as usize
+    usize::from(u16::from_le_bytes([out[at + 2], out[at + 3]]) / 64)
 }
 
 // An epilogue's index, and the bytes of codes once its run is written.
@@ -113,22 +117,33 @@ struct Function<'a> {
 }
 
 impl<'a> Function<'a> {
-    ghost use Rattle.arm64_function.specs.Function.{Taken, Among, OnlyOne, prologue_of, run_of, own_of, codes_of, index_of, packed_of, values_ok_of, NearestOf, KnownOf, AheadOf, shared_of};
+    ghost use Rattle.arm64_function.specs.Function.{Taken, Among, OnlyOne, prologue_of, codes_of, index_of, packed_of, values_ok_of};
 
     // Function k of the lists.
     fn of(x: &Lists<'a>, k: usize) -> Function<'a>
         requires { ListedIn x.now k }
         ensures { Taken x.now k result }
     {
+        let record = Record::<FUNCTION_STRIDE> {
+            list: x.functions,
+            k,
+        };
         Function {
             epilogues: x.epilogues,
             codes: x.codes,
-            parts: parts_at(x.functions, k),
-            size: x.functions[fields::FUNCTION_STRIDE * k + fields::LENGTH],
+            parts: parts_at(&record),
+            size: record.number(fields::LENGTH),
         }
     }
 
-    // ---- its runs
+    fn epilogue(&self, i: usize) -> Epilogue<'a>
+        requires { Among self.now i }
+        ensures { (result.function ≡ self.now) × (result.i ≡ i) }
+    {
+        Epilogue { function: *self, i }
+    }
+
+    // ---- its prologue
 
     fn prologue(&self) -> Codes<'a>
         ensures { (saved_in result ≡ saves self.now.codes.now self.now.parts.prologue) × (result.run.count ≡ self.now.parts.prologue.count) }
@@ -139,100 +154,40 @@ impl<'a> Function<'a> {
         }
     }
 
-    // Kept: a clause that i is one of the function's epilogues, and no struct of the two: each turn of a loop over them would make it anew for the one call
-    // behind, and its maker would ask the same clause.
-    fn epilogue(&self, i: usize) -> Codes<'a>
-        requires { Among self.now i }
-        ensures { (saved_in result ≡ saves self.now.codes.now (epilogue_at self.now.epilogues.now i)) × (result.run.count ≡ field epilogue_stride self.now.epilogues.now i 2) }
-    {
-        Codes {
-            list: self.codes,
-            run: epilogue_at(self.epilogues, i),
-        }
-    }
-
-    // How many bytes the prologue's codes have, without its end, and those of epilogue i.
+    // How many bytes its codes have, without their end.
     fn prologue_size(&self) -> usize
         ensures { (result ≡ length (backwards (prologue_of self.now))) × (result < 2 ^ 62) }
     {
         self.prologue().size()
     }
 
-    fn epilogue_size(&self, i: usize) -> usize
-        requires { Among self.now i }
-        ensures { (result ≡ length (backwards (run_of self.now i))) × (result < 2 ^ 62) }
-    {
-        self.epilogue(i).size()
-    }
-
-    // Whether the run of epilogue i leads in the prologue's.
-    fn leads(&self, i: usize) -> bool
-        requires { Among self.now i }
-        ensures { result ≡ leads (run_of self.now i) (prologue_of self.now) }
-    {
-        arm64_sharing::leads(&self.epilogue(i), &self.prologue())
-    }
-
     // ---- the packed word
-
-    // Whether the first epilogue shares the prologue's codes and E may be set: its instructions and a ret are the function's last `left`, and the short
-    // header holds its index and the words of codes, which are the prologue's alone.
-    fn shares(&self, left: u64) -> bool
-        requires { Among self.now self.now.parts.first }
-        ensures { result ≡ shared_of self.now left }
-    {
-        let i = self.parts.first;
-        if left != self.epilogue(i).run.count as u64 + 1 {
-            return false;
-        }
-        if !self.leads(i) {
-            return false;
-        }
-        let whole = self.prologue_size();
-        if limits::SHORT_PROLOGUE < whole {
-            return false;
-        }
-        whole - self.epilogue_size(i) <= limits::SHORT_INDEX
-    }
 
     // The packed word of a function with one epilogue.
     fn packed_one(&self) -> Option<u64>
         requires { OnlyOne self.now }
         ensures { result ≡ packed_of self.now }
     {
-        let i = self.parts.first;
-        let left = (self.size - self.epilogues[fields::EPILOGUE_STRIDE * i]) / 4;
-        if !self.shares(left) {
+        let only = self.epilogue(self.parts.first);
+        if !only.shares() {
             return None;
         }
-        arm64_packing::packed(self.size / 4, &self.prologue(), &self.epilogue(i))
+        arm64_packing::packed(self.size / 4, &self.prologue(), &only.run())
     }
 
     // ---- questions 82 and 83
 
-    // The start of epilogue i.
-    fn start_ok(&self, i: usize) -> bool
-        requires { Among self.now i }
-        ensures { result ≡ start_ok_at self.now.epilogues.now self.now.size i }
-    {
-        let start = self.epilogues[fields::EPILOGUE_STRIDE * i];
-        if start % 4 != 0 {
-            return false;
-        }
-        start < self.size
-    }
-
     fn starts_ok(&self) -> bool
         ensures { result ≡ all_in (start_ok_at self.now.epilogues.now self.now.size) self.now.parts.first (self.now.parts.end - self.now.parts.first) }
     {
-        (self.parts.first..self.parts.end).all(|i| self.start_ok(i))
+        (self.parts.first..self.parts.end).all(|i| self.epilogue(i).start_ok())
     }
 
     // The values of the epilogues' codes.
     fn runs_fit(&self) -> bool
         ensures { result ≡ all_in (fits_at self.now.epilogues.now self.now.codes.now) self.now.parts.first (self.now.parts.end - self.now.parts.first) }
     {
-        (self.parts.first..self.parts.end).all(|i| self.epilogue(i).fit())
+        (self.parts.first..self.parts.end).all(|i| self.epilogue(i).run().fit())
     }
 
     // Question 83: values that no field holds. More epilogues than a header counts are answered before their runs are compared.
@@ -251,36 +206,6 @@ impl<'a> Function<'a> {
         self.codes_size().is_some()
     }
 
-    // ---- runs of their own
-
-    // The nearest epilogue in front of i with the same run. The search goes backwards: epilogues with few runs among them find theirs soon.
-    fn nearest(&self, i: usize) -> Option<usize>
-        requires { Among self.now i }
-        ensures { NearestOf self.now i (unwrap_or result i) × IfSome result (λ j. j < i) }
-    {
-        let run = self.epilogue(i);
-        for j in (self.parts.first..i).rev() {
-            if arm64_sharing::same_run(&run, &self.epilogue(j)) {
-                return Some(j);
-            }
-        }
-        None
-    }
-
-    // How many bytes the run of epilogue i adds to the codes: none where it is not its own.
-    fn own_size(&self, i: usize) -> usize
-        requires { Among self.now i }
-        ensures { (result ≡ length (runs_bytes (own_of self.now i))) × (result < 2 ^ 63) }
-    {
-        if self.leads(i) {
-            return 0;
-        }
-        if self.nearest(i).is_some() {
-            return 0;
-        }
-        self.epilogue_size(i) + 1
-    }
-
     // How many bytes of codes there are, where a record holds them.
     fn codes_size(&self) -> Option<usize>
         ensures { result ≡ held_to (length (codes_of self.now)) }
@@ -290,39 +215,9 @@ impl<'a> Function<'a> {
             if limits::MOST_CODES < size {
                 return None;
             }
-            size += self.own_size(i);
+            size += self.epilogue(i).own_size();
         }
         (size <= limits::MOST_CODES).then_some(size)
-    }
-
-    // ---- the epilogues' words
-
-    // The index of epilogue i, whose run leads in the prologue's.
-    fn leading_index(&self, i: usize) -> usize
-        requires { Among self.now i × (leads (run_of self.now i) (prologue_of self.now) ≡ true) }
-        ensures { result ≡ index_of self.now i }
-    {
-        self.prologue_size() - self.epilogue_size(i)
-    }
-
-    // The index of epilogue i where the words in front of its own stand from `to` on: a run that was there before has its index in the word.
-    fn scope_of(&self, out: &[u8], to: usize, i: usize, next: usize) -> Scope
-        requires { Among self.now i × AheadOf self.now next i × (next ≤ 1020) × KnownOf self.now out.now to i × (to + 4 * (i - self.now.parts.first) ≤ length out.now) }
-        ensures { (result.index ≡ index_of self.now i) × (result.next ≡ next + length (runs_bytes (own_of self.now i))) }
-    {
-        if self.leads(i) {
-            let index = self.leading_index(i);
-            return Scope { index, next };
-        }
-        if let Some(j) = self.nearest(i) {
-            let index = index_in(out, to + 4 * (j - self.parts.first));
-            return Scope { index, next };
-        }
-        let size = self.epilogue_size(i) + 1;
-        Scope {
-            index: next,
-            next: next + size,
-        }
     }
 
     // ---- the record
@@ -332,10 +227,157 @@ impl<'a> Function<'a> {
         requires { self.now.parts.end - self.now.parts.first ≡ 1 }
         ensures { result ≡ index_of self.now self.now.parts.first }
     {
-        if self.leads(self.parts.first) {
-            return self.leading_index(self.parts.first);
+        let only = self.epilogue(self.parts.first);
+        if only.leads() {
+            return only.leading_index();
         }
         self.prologue_size() + 1
+    }
+}
+
+// Epilogue i of a function.
+#[derive(Clone, Copy)]
+struct Epilogue<'a> {
+    function: Function<'a>,
+    i: usize,
+    ghost among: { (function.parts.first ≤ i) × (i < function.parts.end) },
+}
+
+impl<'a> Epilogue<'a> {
+    ghost use Rattle.arm64_function.specs.Function.{prologue_of, run_of, own_of, index_of, NearestOf, KnownOf, AheadOf, shared_of};
+
+    // Its record in the list.
+    fn record(&self) -> Record<'a, EPILOGUE_STRIDE>
+        ensures { (result.list.now ≡ self.now.function.epilogues.now) × (result.k ≡ self.now.i) }
+    {
+        Record {
+            list: self.function.epilogues,
+            k: self.i,
+        }
+    }
+
+    // Where it starts, in bytes.
+    fn start(&self) -> u64
+        ensures { result ≡ field epilogue_stride self.now.function.epilogues.now self.now.i 0 }
+    {
+        self.record().number(START)
+    }
+
+    fn run(&self) -> Codes<'a>
+        ensures { (saved_in result ≡ saves self.now.function.codes.now (epilogue_at self.now.function.epilogues.now self.now.i)) × (result.run.count ≡ field epilogue_stride self.now.function.epilogues.now self.now.i 2) }
+    {
+        Codes {
+            list: self.function.codes,
+            run: epilogue_at(&self.record()),
+        }
+    }
+
+    // Whether its instructions and a ret are the function's last.
+    fn ends(&self) -> bool
+        requires { field epilogue_stride self.now.function.epilogues.now self.now.i 0 ≤ self.now.function.size }
+        ensures { result ≡ eqb (instructions (self.now.function.size - field epilogue_stride self.now.function.epilogues.now self.now.i 0)) (field epilogue_stride self.now.function.epilogues.now self.now.i 2 + 1) }
+    {
+        (self.function.size - self.start()) / 4 == self.run().run.count as u64 + 1
+    }
+
+    // How many bytes its codes have, without their end.
+    fn size(&self) -> usize
+        ensures { (result ≡ length (backwards (run_of self.now.function self.now.i))) × (result < 2 ^ 62) }
+    {
+        self.run().size()
+    }
+
+    // Whether its run leads in the prologue's.
+    fn leads(&self) -> bool
+        ensures { result ≡ leads (run_of self.now.function self.now.i) (prologue_of self.now.function) }
+    {
+        arm64_sharing::leads(&self.run(), &self.function.prologue())
+    }
+
+    // Whether it shares the prologue's codes and, where it is the first, E may be set: its instructions and a ret are the function's last, and the short
+    // header holds its index and the words of codes, which are the prologue's alone.
+    fn shares(&self) -> bool
+        requires { field epilogue_stride self.now.function.epilogues.now self.now.i 0 ≤ self.now.function.size }
+        ensures { result ≡ shared_of self.now.function self.now.i (instructions (self.now.function.size - field epilogue_stride self.now.function.epilogues.now self.now.i 0)) }
+    {
+        if !self.ends() {
+            return false;
+        }
+        if !self.leads() {
+            return false;
+        }
+        let whole = self.function.prologue_size();
+        if limits::SHORT_PROLOGUE < whole {
+            return false;
+        }
+        whole - self.size() <= limits::SHORT_INDEX
+    }
+
+    // Question 82: its start.
+    fn start_ok(&self) -> bool
+        ensures { result ≡ start_ok_at self.now.function.epilogues.now self.now.function.size self.now.i }
+    {
+        let start = self.start();
+        if start % 4 != 0 {
+            return false;
+        }
+        start < self.function.size
+    }
+
+    // ---- runs of their own
+
+    // The nearest epilogue in front of it with the same run. The search goes backwards: epilogues with few runs among them find theirs soon.
+    fn nearest(&self) -> Option<usize>
+        ensures { NearestOf self.now.function self.now.i (unwrap_or result self.now.i) × IfSome result (λ j. j < self.now.i) }
+    {
+        let run = self.run();
+        (self.function.parts.first..self.i).rev().find(|j| arm64_sharing::same_run(
+            &run,
+            &self.function.epilogue(*j).run(),
+        ))
+    }
+
+    // How many bytes its run adds to the codes: none where it is not its own.
+    fn own_size(&self) -> usize
+        ensures { (result ≡ length (runs_bytes (own_of self.now.function self.now.i))) × (result < 2 ^ 63) }
+    {
+        if self.leads() {
+            return 0;
+        }
+        if self.nearest().is_some() {
+            return 0;
+        }
+        self.size() + 1
+    }
+
+    // ---- the epilogues' words
+
+    // The index of an epilogue whose run leads in the prologue's.
+    fn leading_index(&self) -> usize
+        requires { leads (run_of self.now.function self.now.i) (prologue_of self.now.function) ≡ true }
+        ensures { result ≡ index_of self.now.function self.now.i }
+    {
+        self.function.prologue_size() - self.size()
+    }
+
+    // The index where the words in front of its own stand from `to` on: a run that was there before has its index in the word.
+    fn scope_of(&self, out: &[u8], to: usize, next: usize) -> Scope
+        requires { AheadOf self.now.function next self.now.i × (next ≤ 1020) × KnownOf self.now.function out.now to self.now.i × (to + 4 * (self.now.i - self.now.function.parts.first) ≤ length out.now) }
+        ensures { (result.index ≡ index_of self.now.function self.now.i) × (result.next ≡ next + length (runs_bytes (own_of self.now.function self.now.i))) }
+    {
+        if self.leads() {
+            let index = self.leading_index();
+            return Scope { index, next };
+        }
+        if let Some(j) = self.nearest() {
+            let index = index_in(out, to + 4 * (j - self.function.parts.first));
+            return Scope { index, next };
+        }
+        let size = self.size() + 1;
+        Scope {
+            index: next,
+            next: next + size,
+        }
     }
 }
 
@@ -375,9 +417,7 @@ impl<'a> Checked<'a> {
         if limits::SHORT_INDEX < index {
             return None;
         }
-        let left = (self.function.size - self.function.epilogues[fields::EPILOGUE_STRIDE * p.first])
-            / 4;
-        if left != self.function.epilogues[fields::EPILOGUE_STRIDE * p.first + fields::CODES] + 1 {
+        if !self.function.epilogue(p.first).ends() {
             return None;
         }
         Some(index as u64)
@@ -413,6 +453,8 @@ impl<'a> Checked<'a> {
         }
     }
 
+    // Kept: a match here and one in `put_words`, and no method beside `Epilogues::count`: `put_words` writes or not, by its answer's place, so that a method for
+    // the number of words would have this one caller, and its answer a case for each form as the two here.
     fn record_size(&self) -> usize
         ensures { (result ≡ length (record_of self.now.function)) × (result ≤ 300000) }
     {
@@ -428,18 +470,20 @@ impl<'a> Checked<'a> {
 
     // ---- what is written
 
-    // Kept: the list and the place stand side by side in each writer here: a struct that lends the list would ask each contract to say that it is the
-    // same list still, which a slice needs not say.
+    // Kept: the list and the place stand side by side in the seven writers from here on and in the four that they call (put_run, Header::put, pad, le): a
+    // struct of the two would make each of the eleven contracts say beside the bytes that the same list is lent still (its ghost_name), where `Wrote` of a
+    // slice says all.
     // The run of epilogue i, where it is its own.
     fn put_own(&self, out: &mut [u8], at: usize, i: usize) -> usize
         requires { Among self.now.function i × (at + length (runs_bytes (own_of self.now.function i)) ≤ length out.old) }
         ensures { Wrote out.old out.new at result (runs_bytes (own_of self.now.function i)) }
     {
-        let size = self.function.own_size(i);
+        let epilogue = self.function.epilogue(i);
+        let size = epilogue.own_size();
         if size == 0 {
             return at;
         }
-        arm64_sharing::put_run(out, at, size - 1, &self.function.epilogue(i))
+        arm64_sharing::put_run(out, at, size - 1, &epilogue.run())
     }
 
     // The runs of the epilogues that have their own.
@@ -476,13 +520,13 @@ impl<'a> Checked<'a> {
         let mut next = self.function.prologue_size() + 1;
         let mut q = to;
         for i in self.function.parts.first..self.function.parts.end {
-            let s = self.function.scope_of(out, to, i, next);
+            let epilogue = self.function.epilogue(i);
+            let s = epilogue.scope_of(out, to, next);
             q = leb::le(
                 out,
                 q,
                 4,
-                self.function.epilogues[fields::EPILOGUE_STRIDE * i] / 4
-                    + header_bits::INDEX * s.index as u64,
+                epilogue.start() / 4 + header_bits::INDEX * s.index as u64,
             );
             next = s.next;
         }
@@ -534,22 +578,13 @@ pub fn function_asks(x: &Lists, k: usize) -> Result<(), Refusal>
 {
     let f = Function::of(x, k);
     if !length_ok(f.size) {
-        return Err(Refusal {
-            question: Question::Arm64Length,
-            position: 0,
-        });
+        return Err(Refusal::from(Question::Arm64Length));
     }
     if !f.starts_ok() {
-        return Err(Refusal {
-            question: Question::Arm64Epilogues,
-            position: 0,
-        });
+        return Err(Refusal::from(Question::Arm64Epilogues));
     }
     if !f.values_ok() {
-        return Err(Refusal {
-            question: Question::Arm64Values,
-            position: 0,
-        });
+        return Err(Refusal::from(Question::Arm64Values));
     }
     Ok(())
 }

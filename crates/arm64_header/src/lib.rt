@@ -11,6 +11,7 @@ ghost use Rattle.arm64_header.specs.Header.{is_long_of, first_word, header_by};
 use arm64::{Epilogues, header_bits, limits};
 
 // A full record's header: the length in instructions, the count's field, and the words of codes.
+// Kept: beside arm64's `Header`, which is read: that has the handler's mark and the place past it besides, which the writer has not.
 #[derive(Clone, Copy)]
 pub struct Header {
     pub length: u64,
@@ -62,8 +63,8 @@ impl Header {
     }
 }
 
-// Kept: the list and the place stand side by side here and in `put`: a struct that lends the list would ask each contract to say that it is the same
-// list still, which a slice needs not say.
+// Kept: the list and the place stand side by side here and in `put`: a struct of the two would make both contracts, and that of leb's `le` below, say
+// beside the bytes that the same list is lent still (its ghost_name), where `Wrote` of a slice says all.
 // Codes are padded to words with nop.
 pub fn pad(out: &mut [u8], at: usize, n: usize) -> usize
     requires { (n ≤ 3) × (at + n ≤ length out.old) }

@@ -1,5 +1,5 @@
 -- Laws behind the proofs of the functions.
-pub mod Counts
+pub mod CountsLaws
 pub mod Tallies
 pub mod Comparing
 pub mod Answers

@@ -21,7 +21,9 @@ use Rattle.arm64_simple.proofs.OneCode.{next_low}
 use Rattle.arm64_simple.specs.declared.Step.{Step}
 use Rattle.arm64_simple.specs.Steps.{steps, step_fits}
 use Rattle.arm64_simple.proofs.Loops.{steps-length, saves-length, resolves, resolves_all, fits_all, fits_code}
-use Rattle.arm64_packing.specs.Places.{Low, Counted}
+use Rattle.arm64_packing.specs.declared.Chain.TheVariants.{Unchained}
+use Rattle.arm64_packing.specs.declared.Counts.{Counts}
+use Rattle.arm64_packing.specs.Places.{counted, Low, Counted}
 
 -- ---- how far one code moves the stack pointer
 
@@ -54,25 +56,23 @@ unfolding tallies
 tallies_none p = refl
 
 -- of `count` codes, ps as they are written, some are left
-pub record Tallying (ps : List Code) (size count : ℕ) (left : List Step) (p : Packed) : Type 0 where
-  pub flag : p.flag ≡ 1
-  pub homes : p.homes ≡ 0
-  pub chain : p.chain < 4
-  pub vectors : p.vectors + 2 * length left ≤ 2 * count
-  pub registers : p.registers + 2 * length left ≤ 2 * count
-  pub frame : p.frame + 2 ^ 29 * length left ≤ 2 ^ 29 * count
+pub record Tallying (ps : List Code) (size count : ℕ) (left : List Step) (n : Counts) : Type 0 where
+  pub vectors : n.vectors + 2 * length left ≤ 2 * count
+  pub registers : n.registers + 2 * length left ≤ 2 * count
+  pub frame : n.frame + 2 ^ 29 * length left ≤ 2 ^ 29 * count
   pub fits : list_all step_fits left ≡ true
-  pub same : tallies (nothing_yet size) (resolve no_pair ps) ≡ tallies p (resolves left)
+  pub same : tallies (nothing_yet size) (resolve no_pair ps) ≡ tallies (counted n) (resolves left)
+
+-- no code counted
+abbrev pub uncounted : ℕ → Counts
+uncounted size = record { length = size; vectors = 0; registers = 0; chain = Unchained; frame = 0 }
 
 pub tallying_start : (cs : List ℕ) (size : ℕ) (r : Run) {left : List Step} → left ≡ steps no_pair (saves cs r) → run_fits no_pair (saves cs r) ≡ true
-    → Tallying (simplify no_pair (saves cs r)) size r.count left (nothing_yet size)
+    → Tallying (simplify no_pair (saves cs r)) size r.count left (uncounted size)
 unfolding nothing_yet
 tallying_start cs size r {left} l e =
     let n : length left ≡ r.count = ap length l ∙ steps-length no_pair (saves cs r) ∙ saves-length cs r in
     record {
-      flag = refl;
-      homes = refl;
-      chain = omega arith;
       vectors = omega (arith, n);
       registers = omega (arith, n);
       frame = omega (arith, n);
@@ -80,15 +80,9 @@ tallying_start cs size r {left} l e =
       same = ap (tallies (nothing_yet size)) (sym (ap resolves l ∙ resolves_all no_pair (saves cs r)));
     }
 
-module _ {ps : List Code} {size count : ℕ} {left : List Step} {p : Packed} (t : Tallying ps size count left p) where
-  pub tallying_low : count ≤ most_records → Low p
-  tallying_low m =
-      record {
-        vectors = omega (arith, t.vectors, m);
-        registers = omega (arith, t.registers, m);
-        chain = t.chain;
-        frame = omega (arith, t.frame, m);
-      }
+module _ {ps : List Code} {size count : ℕ} {left : List Step} {n : Counts} (t : Tallying ps size count left n) where
+  pub tallying_low : count ≤ most_records → Low n
+  tallying_low m = record { vectors = omega (arith, t.vectors, m); registers = omega (arith, t.registers, m); frame = omega (arith, t.frame, m) }
 
   module _ {later : List Step} {s : Step} (e : left ≡ s ∷ later) {d : Code} (g : d ≡ resolved s.before s.written) where
     parts : (step_fits s ≡ true) × (list_all step_fits later ≡ true)
@@ -100,26 +94,17 @@ module _ {ps : List Code} {size count : ℕ} {left : List Step} {p : Packed} (t 
         let m : down_in d ≡ down_in (resolved s.before s.written) = ap down_in g in
         omega (arith, n, m, down_most (resolved s.before s.written))
 
-    pub tallying_turn : {q : Packed} → q ≡ tally p d → Counted p q → Tallying ps size count later q
-    tallying_turn {q} k n =
+    pub tallying_turn : {m : Counts} → counted m ≡ tally (counted n) d → Counted n m → Tallying ps size count later m
+    tallying_turn {m} k h =
         let l : length left ≡ suc (length later) = ap length e in
         record {
-          flag = n.flag ∙ t.flag;
-          homes = n.homes ∙ t.homes;
-          chain = n.chain;
-          vectors = omega (arith, n.vectors, t.vectors, l);
-          registers = omega (arith, n.registers, t.registers, l);
-          frame = omega (arith, n.frame, t.frame, l);
+          vectors = omega (arith, h.vectors, t.vectors, l);
+          registers = omega (arith, h.registers, t.registers, l);
+          frame = omega (arith, h.frame, t.frame, l);
           fits = parts.1;
-          same = t.same ∙ ap (λ x. tallies p (resolves x)) e ∙ tallies_next p s later ∙ ap (λ x. tallies x (resolves later)) (sym (k ∙ ap (tally p) g));
+          same = t.same ∙ ap (λ x. tallies (counted n) (resolves x)) e ∙ tallies_next (counted n) s later ∙ ap (λ x. tallies x (resolves later)) (sym (k ∙ ap (tally (counted n)) g));
         }
 
-  ended : left ≡ [] → as_fields p ≡ candidate size ps
+  pub tallying_ended : {q : Packed} → q ≡ as_fields (counted n) → left ≡ [] → q ≡ candidate size ps
   unfolding candidate
-  ended h = ap as_fields (sym (t.same ∙ ap (λ x. tallies p (resolves x)) h ∙ tallies_none p))
-
-  pub tallying_ended : {q : Packed} → q ≡ as_fields p → left ≡ [] → (q ≡ candidate size ps) × (q.flag ≡ 1) × (q.homes ≡ 0) × (q.chain < 4)
-  unfolding as_fields
-  tallying_ended {q} e h =
-      let k : q.chain ≡ p.chain = ap (λ x. x.chain) e in
-      (e ∙ ended h, ap (λ x. x.flag) e ∙ t.flag, ap (λ x. x.homes) e ∙ t.homes, omega (arith, k, t.chain))
+  tallying_ended {q} e h = e ∙ ap as_fields (sym (t.same ∙ ap (λ x. tallies (counted n) (resolves x)) h ∙ tallies_none (counted n)))

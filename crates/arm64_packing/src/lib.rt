@@ -11,26 +11,13 @@ ghost use Rattle.arm64.specs.Packed.{packed_ok, slots_from};
 ghost use Rattle.arm64.specs.Runs.{no_pair, run_fits, same_codes};
 ghost use Rattle.arm64.specs.Packing.{integers_in, vectors_in, down_in, chain_behind, tally, as_fields, candidate, packed_word, fields_hold, stands_for};
 ghost use Rattle.arm64_simple.specs.Written.{saved_in, written_in};
-ghost use Rattle.arm64_packing.specs.Places.{stores_one, stores_lr, placed, given, Low, Counted};
+ghost use Rattle.arm64_packing.specs.Places.{placed, given};
 
 use arm64::{Code, Packed, Part, packed_bits};
 use arm64_packed::Word;
 use arm64_simple::Codes;
 
 // ---- what a code counts
-
-// A save of one integer register.
-fn stores_one(c: Code) -> bool
-    ensures { result ≡ stores_one c }
-{
-    c.kind == arm64::REG || c.kind == arm64::REG_X
-}
-
-fn stores_lr(c: Code) -> bool
-    ensures { result ≡ stores_lr c }
-{
-    c.kind == arm64::LRPAIR || stores_one(c) && c.register == 30
-}
 
 #[tactic(auto, unfolding(arm64::specs::Packing::integers_in, format::specs::Prelude::pick))]
 fn integers_in(c: Code) -> u64
@@ -65,65 +52,99 @@ fn down_in(c: Code) -> u64
     }
 }
 
-// CR behind the frame record.
-fn chain_recorded(chain: u64) -> u64
-    requires { chain < 4 }
-    ensures { (result ≡ pick (eqb chain 2) 2 3) × (result < 4) }
-{
-    if chain == 2 {
-        return 2;
-    }
-    3
-}
-
-fn chain_behind(chain: u64, c: Code) -> u64
-    requires { chain < 4 }
-    ensures { (result ≡ chain_behind chain c) × (result < 4) }
-{
-    if c.kind == arm64::PAC_SIGN_LR {
-        return 2;
-    }
-    if c.kind == arm64::FPLR {
-        return chain_recorded(chain);
-    }
-    if c.kind == arm64::FPLR_X {
-        return chain_recorded(chain);
-    }
-    if !stores_lr(c) {
-        return chain;
-    }
-    if chain == 0 {
-        return 1;
-    }
-    chain
-}
-
 // ---- the only word that may stand for a prologue
 
-fn tally(p: Packed, c: Code) -> Packed
-    requires { Low p × (down_in c < 2 ^ 29) }
-    ensures { (result ≡ tally p c) × Counted p result }
-{
-    let vectors = vectors_in(c);
-    let registers = integers_in(c);
-    let chain = chain_behind(p.chain, c);
-    let frame = down_in(c);
-    Packed {
-        vectors: p.vectors + vectors,
-        registers: p.registers + registers,
-        chain,
-        frame: p.frame + frame,
-        ..p
+// How a prologue saves lr: CR.
+#[derive(Clone, Copy, PartialEq, Eq)]
+enum Chain {
+    Unchained = 0,
+    Saved = 1,
+    Signed = 2,
+    Recorded = 3,
+}
+
+impl Chain {
+    ghost use Rattle.arm64_packing.specs.Places.{chain_number};
+
+    fn number(self) -> u64
+        ensures { (result ≡ chain_number self) × (result < 4) }
+    {
+        self as u64
+    }
+
+    // Behind the frame record.
+    fn recorded(self) -> Chain
+        ensures { chain_number result ≡ pick (eqb (chain_number self) 2) 2 3 }
+    {
+        match self {
+            Chain::Signed => Chain::Signed,
+            _ => Chain::Recorded,
+        }
+    }
+
+    // Behind a save of lr.
+    fn saved(self) -> Chain
+        ensures { chain_number result ≡ pick (eqb (chain_number self) 0) 1 (chain_number self) }
+    {
+        match self {
+            Chain::Unchained => Chain::Saved,
+            _ => self,
+        }
+    }
+
+    #[tactic(auto, unfolding(arm64::specs::Packing::chain_behind, format::specs::Prelude::pick))]
+    fn behind(self, c: Code) -> Chain
+        ensures { chain_number result ≡ chain_behind (chain_number self) c }
+    {
+        match c.kind {
+            arm64::PAC_SIGN_LR => Chain::Signed,
+            arm64::FPLR | arm64::FPLR_X => self.recorded(),
+            arm64::LRPAIR => self.saved(),
+            arm64::REG | arm64::REG_X if c.register == 30 => self.saved(),
+            _ => self,
+        }
     }
 }
 
-fn as_fields(p: Packed) -> Packed
-    ensures { result ≡ as_fields p }
-{
-    Packed {
-        vectors: p.vectors.saturating_sub(1),
-        frame: p.frame / 16,
-        ..p
+// What the codes of a prologue count so far, of a function of `length` instructions: the frame is in bytes.
+#[derive(Clone, Copy)]
+struct Counts {
+    length: u64,
+    vectors: u64,
+    registers: u64,
+    chain: Chain,
+    frame: u64,
+}
+
+impl Counts {
+    ghost use Rattle.arm64_packing.specs.Places.{counted, Low, Counted};
+
+    // With one code more.
+    fn and(self, c: Code) -> Counts
+        requires { Low self × (down_in c < 2 ^ 29) }
+        ensures { (counted result ≡ tally (counted self) c) × Counted self result }
+    {
+        Counts {
+            vectors: self.vectors + vectors_in(c),
+            registers: self.registers + integers_in(c),
+            chain: self.chain.behind(c),
+            frame: self.frame + down_in(c),
+            ..self
+        }
+    }
+
+    fn as_fields(self) -> Packed
+        ensures { (result ≡ as_fields (counted self)) × (result.flag ≡ 1) × (result.homes ≡ 0) × (result.chain < 4) }
+    {
+        Packed {
+            flag: 1,
+            length: self.length,
+            vectors: self.vectors.saturating_sub(1),
+            registers: self.registers,
+            homes: 0,
+            chain: self.chain.number(),
+            frame: self.frame / 16,
+        }
     }
 }
 
@@ -132,19 +153,17 @@ fn candidate(run: &Codes, size: u64) -> Packed
     requires { (run_fits no_pair (saved_in run.now) ≡ true) × (run.now.run.count ≤ most_records) }
     ensures { (result ≡ candidate size (written_in run.now)) × (result.flag ≡ 1) × (result.homes ≡ 0) × (result.chain < 4) }
 {
-    let mut p = Packed {
-        flag: 1,
+    let mut counts = Counts {
         length: size,
         vectors: 0,
         registers: 0,
-        homes: 0,
-        chain: 0,
+        chain: Chain::Unchained,
         frame: 0,
     };
     for s in run.steps() {
-        p = tally(p, s.resolved());
+        counts = counts.and(s.resolved());
     }
-    as_fields(p)
+    counts.as_fields()
 }
 
 // ---- whether it does
@@ -185,8 +204,8 @@ fn place(part: Part, w: Word, i: u64) -> Option<Code>
     }
 }
 
-// Kept: a loop over the places. Tried by the iterators' `eq`: a list of packed functions took 10 to 15 % longer to write, where docs/PERFORMANCE.md ("Windows
-// on ARM64") has 2.3 times the Rust's time already.
+// Kept: a loop over the places. Tried by the iterators' `eq`: a list of packed functions (differential/arm64_speed.py) took 10 to 15 % longer to write than
+// by this loop, which is the bar.
 // Whether a run's instructions are those of the word's prologue or of its epilogue.
 fn same_places(run: &Codes, part: Part, w: Word) -> bool
     ensures { result ≡ same_codes (given run.now.list.now run.now.run) (slots_from (placed part w.fields) 0 19) }

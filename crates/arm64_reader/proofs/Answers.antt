@@ -7,8 +7,9 @@ use mathlib.Core.List.{List, [], ◌∷◌, ◌++◌, append-nil}
 use Prim.Native.Nat.{ℕ, suc, ◌+◌, ◌-◌, ◌*◌, ◌/◌, ◌%◌, ◌≤◌, ◌<◌}
 use native.Mathlib.Omega.{arith}
 use lib.ListN.{length, length-append}
-use Rattle.std.specs.Prelude.{Ok, Err, MatchResult}
+use Rattle.std.specs.Prelude.{Ok, Err, Some, None, MatchResult}
 use Rattle.std.specs.Prelude as code
+use Rattle.std.specs.Option.{ok_or}
 use Rattle.format.specs.Prelude.{pick, after, Result, good, bad, onward, or_else}
 use Rattle.format.specs.declared.question.Question.{Question}
 use Rattle.format.specs.declared.question.Question.TheVariants.{OtherRoom}
@@ -37,9 +38,18 @@ use Rattle.arm64_records.specs.Parts.{headed_at, total_of, epilogues_in, words_f
 use Rattle.arm64_records.proofs.Epilogues.{scoped-length, counted_run}
 use Rattle.arm64_records.proofs.Whole.{by_words, many_all, many_one, one, total_some}
 use Rattle.arm64_records.proofs.Headers.{when_true, when_false}
-use Rattle.arm64_reader.specs.Answers.{told, roomy, answer_of, Answered, found}
+use Rattle.arm64_reader.specs.Answers.{reading_with, roomy, answer_of, Answered, found}
 
 -- ---- refusals
+
+-- what stands in front of a `?`: the value that was there, or that there was none and by what is refused
+pub given : {A : Type 0} (o : code.Option A) (q : Question) {x : A} → ok_or o q ≡ Ok x → o ≡ Some x
+given None q e = let f : ◌≡◌ {A = ℕ} 0 1 = cc in absurd (omega arith)
+given (Some y) q e = cc
+
+pub lacking : {A : Type 0} (o : code.Option A) (q : Question) {e : Question} → ok_or o q ≡ Err e → (o ≡ None) × (q ≡ e)
+lacking None q e = (refl, cc)
+lacking (Some y) q e = let f : ◌≡◌ {A = ℕ} 0 1 = cc in absurd (omega arith)
 
 pub refuses : {x : Result Unwound} {q : Question} {r : code.Result Arm64Reading Question} {es cs : List ℕ} → x ≡ bad (number_of q) → r ≡ Err q → Answered x r es es cs cs
 unfolding answer_of epilogues_after codes_after
@@ -67,7 +77,7 @@ pub record Stored (u : Unwound) (es es' cs cs' : List ℕ) (n : ℕ) : Type 0 wh
   pub codes : cs' ≡ put (put cs 0 (code_numbers u.prologue)) (3 * n) (code_numbers (epilogue_codes u.epilogues))
 
 stored_answer : {x : Result Unwound} {u : Unwound} {r : code.Result Arm64Reading Question} {es es' cs cs' : List ℕ} {n m k : ℕ} → x ≡ good u → Counts u n m k
-    → r ≡ Ok (told u.size n k m) → Stored u es es' cs cs' n → Answered x r es es' cs cs'
+    → r ≡ Ok (reading_with u.size n k m) → Stored u es es' cs cs' n → Answered x r es es' cs cs'
 unfolding answer_of reading_of epilogues_after codes_after all_codes
 stored_answer {x} {u} {r} {es} {es'} {cs} {cs'} {n} {m} {k} e d a w =
     let l : 0 + length (code_numbers u.prologue) ≡ 3 * n = omega (arith, code_numbers-length u.prologue, d.prologue) in
@@ -96,7 +106,7 @@ module _ {x : Option Unwound} {u : Unwound} {n m k : ℕ} (es cs : List ℕ) (e 
   pub no_room : {r : code.Result Arm64Reading Question} → roomy es cs k (n + m) ≡ false → r ≡ Err OtherRoom → Answered (found x es cs) r es es cs cs
   no_room f q = refuses (by_room ∙ when_false (roomy es cs k (n + m)) (good u) (bad 54) f) q
 
-  pub stored : {r : code.Result Arm64Reading Question} {es' cs' : List ℕ} → roomy es cs k (n + m) ≡ true → r ≡ Ok (told u.size n k m) → Stored u es es' cs cs' n → Answered (found x es cs) r es es' cs cs'
+  pub stored : {r : code.Result Arm64Reading Question} {es' cs' : List ℕ} → roomy es cs k (n + m) ≡ true → r ≡ Ok (reading_with u.size n k m) → Stored u es es' cs cs' n → Answered (found x es cs) r es es' cs cs'
   stored t a w = stored_answer (by_room ∙ when_true (roomy es cs k (n + m)) (good u) (bad 54) t) d a w
 
 -- ---- the record

@@ -13,8 +13,8 @@ use Rattle.arm64_records.specs.Lent.{SameLists}
 use Rattle.arm64.specs.Reader.{Unwound, fits_in, reading_of, epilogues_after, codes_after}
 
 -- the reading where n codes of the prologue were found, and epilogues of m codes
-abbrev pub told : (length n epilogues m : ℕ) → Arm64Reading
-told length n epilogues m = record { number = 0; length = length; prologue = n; epilogues = epilogues; codes = n + m }
+abbrev pub reading_with : (length n epilogues m : ℕ) → Arm64Reading
+reading_with length n epilogues m = record { number = 0; length = length; prologue = n; epilogues = epilogues; codes = n + m }
 
 -- the lent lists hold that many epilogues and codes
 unfoldable pub roomy : (es cs : List ℕ) → (epilogues codes : ℕ) → Bool

@@ -7,17 +7,18 @@ ghost use Rattle.format.specs.Numbers.{number_of};
 ghost use Rattle.format.specs.declared.question.Question.TheVariants.{OtherRoom};
 ghost use Rattle.arm64.specs.Packed.{packed_of, packed_ok};
 ghost use Rattle.arm64.specs.Reader.{record_unwound, full_record, fits_in, packed_unwound, read_arm64, reading_of, epilogues_after, codes_after};
-ghost use Rattle.arm64_reader.specs.Answers.{told, AnsweredIn, found_in, room_of};
+ghost use Rattle.arm64_reader.specs.Answers.{reading_with, AnsweredIn, found_in, room_of};
 
 use arm64::{Arm64Reading, Part, fields};
 use arm64_packed::Word;
 use arm64_records::{Output, Record};
+use arm64_runs::Run;
 use format::Question;
 
 // What the reader answers where n codes of the prologue were found, and epilogues of m codes.
 fn reading(length: u64, n: usize, epilogues: u64, m: usize) -> Arm64Reading
     requires { n + m < 18446744073709551616 }
-    ensures { result ≡ told length n epilogues m }
+    ensures { result ≡ reading_with length n epilogues m }
 {
     Arm64Reading {
         number: 0,
@@ -34,10 +35,7 @@ fn refused(question: Question) -> Arm64Reading
 {
     Arm64Reading {
         number: question.number(),
-        length: 0,
-        prologue: 0,
-        epilogues: 0,
-        codes: 0,
+        ..Arm64Reading::default()
     }
 }
 
@@ -57,15 +55,11 @@ fn room(to: &Output, epilogues: u64, codes: usize) -> Result<(), Question>
 fn record_with(x: &Record, to: &mut Output) -> Result<Arm64Reading, Question>
     ensures { AnsweredIn (found_in (record_unwound x.now.header x.now.section.now) to.old) result to.old to.new }
 {
-    let Some(n) = arm64_runs::count_run(x.codes, 0) else {
-        return Err(Question::X64Codes);
-    };
-    let Some(m) = x.count_epilogues() else {
-        return Err(Question::X64Codes);
-    };
+    let n = arm64_runs::count_run(x.codes, 0).ok_or(Question::X64Codes)?;
+    let m = x.count_epilogues().ok_or(Question::X64Codes)?;
     let k = arm64_records::epilogues_in(x.header);
     room(to, k, n + m)?;
-    arm64_runs::put_back(to.codes, fields::CODE_STRIDE * n, x.codes);
+    Run::at(x.codes, 0).put_back(to.codes, fields::CODE_STRIDE * n);
     x.put_epilogues(n, m, to);
     Ok(reading(4 * x.header.length, n, k, m))
 }
@@ -120,9 +114,7 @@ fn packed(word: u64, to: &mut Output) -> Result<Arm64Reading, Question>
 fn record(s: &[u8], place: u64, to: &mut Output) -> Result<Arm64Reading, Question>
     ensures { AnsweredIn (onward (full_record s.now place) (fits_in to.old.epilogues.now to.old.codes.now)) result to.old to.new }
 {
-    let Some(h) = arm64_records::header(s, place) else {
-        return Err(Question::X64Header);
-    };
+    let h = arm64_records::header(s, place).ok_or(Question::X64Header)?;
     record_with(&Record::of(s, h), to)
 }
 

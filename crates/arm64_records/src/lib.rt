@@ -10,11 +10,12 @@ ghost use Rattle.arm64.specs.Lists.{epilogue_stride, code_stride, code_numbers, 
 ghost use Rattle.arm64.specs.declared.Epilogues.TheVariants.{Scoped};
 ghost use Rattle.arm64.specs.Records.{word_at, epilogues_with, header_with, scopes_in, codes_from, codes_to, codes_of};
 ghost use Rattle.arm64.specs.Reader.{run_at, scoped, epilogue_codes};
-ghost use Rattle.arm64_runs.specs.Runs.{codes_in};
+ghost use Rattle.arm64_runs.specs.Left.{codes_left};
 ghost use Rattle.arm64_records.specs.Parts.{word_there, fitting, headed_at, Narrow, Inside, total_of, epilogues_in, how_many};
 ghost use Rattle.arm64_records.specs.Lent.{PlacedIn, ListedIn};
 
 use arm64::{Epilogues, Header, fields, header_bits};
+use arm64_runs::Run;
 
 // ---- the header
 
@@ -65,6 +66,8 @@ fn header_with(w: u64, count: u64, words: u64, past: u64) -> Header
 }
 
 // How many words of epilogues stand behind the header: none where E is set.
+// Kept: this match and that of `epilogues_in`, and no methods beside `Epilogues::count`. Both functions are public and stay, so that each would hand on to a
+// method with the same match; `words` would have one caller more, arm64_function's `record_size`, and `how_many` none.
 #[tactic(auto, unfolding(arm64::specs::Records::scopes_in, format::specs::Prelude::pick))]
 pub fn scopes_in(h: Header) -> u64
     ensures { result ≡ scopes_in h }
@@ -126,12 +129,11 @@ pub struct Output<'a> {
 
 impl Output<'_> {
     // An epilogue in place k: its start, where its codes stand and how many there are, and the codes. This gives the place past them.
-    pub fn put_one(&mut self, k: usize, at: usize, codes: &[u8], start: u64, index: usize) -> usize
-        requires { (run_at codes.now index ≡ some (codes_in (run_at codes.now index))) × (epilogue_stride * (k + 1) ≤ length self.old.epilogues.now) × (code_stride * (at + length (codes_in (run_at codes.now index))) ≤ length self.old.codes.now) }
-        ensures { PlacedIn self.old self.new k at result start (codes_in (run_at codes.now index)) }
+    pub fn put_one(&mut self, k: usize, at: usize, start: u64, run: Run) -> usize
+        requires { (epilogue_stride * (k + 1) ≤ length self.old.epilogues.now) × (code_stride * (at + length (codes_left run)) ≤ length self.old.codes.now) }
+        ensures { PlacedIn self.old self.new k at result start (codes_left run.entry) }
     {
-        let past = arm64_runs::put_run(self.codes, fields::CODE_STRIDE * at, codes, index)
-            / fields::CODE_STRIDE;
+        let past = run.put(self.codes, fields::CODE_STRIDE * at) / fields::CODE_STRIDE;
         arm64_runs::put_three(
             self.epilogues,
             fields::EPILOGUE_STRIDE * k,
@@ -162,8 +164,56 @@ pub fn epilogues_in(h: Header) -> u64
     }
 }
 
+// A record whose epilogues have a word each, and how many they are.
+#[derive(Clone, Copy)]
+struct Scopes<'a> {
+    record: Record<'a>,
+    count: u64,
+    ghost by_words: { «record».header.epilogues ≡ Scoped count },
+}
+
+impl Scopes<'_> {
+    ghost use Rattle.arm64_records.specs.Record.{word_of};
+
+    // The word of epilogue k.
+    fn word(&self, k: usize) -> u64
+        requires { k < self.now.count }
+        ensures { result ≡ word_of self.now.«record» k }
+    {
+        word_at(
+            self.record.section,
+            self.record.header.past as usize + 4 * k,
+        )
+    }
+
+    // How many codes the epilogues have.
+    fn count_codes(&self) -> Option<usize>
+        ensures { (result ≡ option_of (total_of (scoped (word_of self.now.«record») self.now.«record».codes.now 0 self.now.count))) × IfSome result (λ m. m ≤ 66846720) }
+    {
+        let mut n = 0;
+        for k in 0..self.count as usize {
+            let w = self.word(k);
+            n += arm64_runs::count_run(self.record.codes, (w / header_bits::INDEX) as usize)?;
+        }
+        Some(n)
+    }
+
+    // The epilogues; n codes stand before theirs.
+    fn put(&self, n: usize, to: &mut Output)
+        requires { (scoped (word_of self.now.«record») self.now.«record».codes.now 0 self.now.count ≡ some (epilogues_in (scoped (word_of self.now.«record») self.now.«record».codes.now 0 self.now.count))) × (epilogue_stride * self.now.count ≤ length to.old.epilogues.now) × (code_stride * (n + length (epilogue_codes (epilogues_in (scoped (word_of self.now.«record») self.now.«record».codes.now 0 self.now.count)))) ≤ length to.old.codes.now) }
+        ensures { ListedIn to.old to.new n (epilogues_in (scoped (word_of self.now.«record») self.now.«record».codes.now 0 self.now.count)) }
+    {
+        let mut at = n;
+        for k in 0..self.count as usize {
+            let w = self.word(k);
+            let run = Run::at(self.record.codes, (w / header_bits::INDEX) as usize);
+            at = to.put_one(k, at, 4 * (w % header_bits::RESERVED), run);
+        }
+    }
+}
+
 impl<'a> Record<'a> {
-    ghost use Rattle.arm64_records.specs.Record.{epilogues_of, word_of};
+    ghost use Rattle.arm64_records.specs.Record.{epilogues_of};
 
     #[tactic(auto, unfolding(arm64::specs::Records::codes_to, arm64::specs::Records::codes_from))]
     pub fn of(section: &'a [u8], header: Header) -> Record<'a>
@@ -179,29 +229,8 @@ impl<'a> Record<'a> {
         }
     }
 
-    // The word of epilogue k, where a word stands for each.
-    fn word(&self, count: u64, k: usize) -> u64
-        requires { (self.now.header.epilogues ≡ Scoped count) × (k < count) }
-        ensures { result ≡ word_of self.now k }
-    {
-        word_at(self.section, self.header.past as usize + 4 * k)
-    }
-
-    // How many codes the epilogues have, where a word stands for each.
-    fn count_scoped(&self, count: u64) -> Option<usize>
-        requires { self.now.header.epilogues ≡ Scoped count }
-        ensures { (result ≡ option_of (total_of (scoped (word_of self.now) self.now.codes.now 0 count))) × IfSome result (λ m. m ≤ 66846720) }
-    {
-        let mut n = 0;
-        for k in 0..count as usize {
-            let w = self.word(count, k);
-            n += arm64_runs::count_run(self.codes, (w / header_bits::INDEX) as usize)?;
-        }
-        Some(n)
-    }
-
     // How many codes the epilogues have.
-    #[tactic(auto, using(arm64::proofs::Coded::is_none, crate::proofs::Whole::one_none, crate::proofs::Whole::by_words))]
+    #[tactic(auto, using(format::proofs::Asked::none_is, crate::proofs::Whole::one_none, crate::proofs::Whole::by_words))]
     pub fn count_epilogues(&self) -> Option<usize>
         ensures { (result ≡ option_of (total_of (epilogues_of self.now))) × IfSome result (λ m. m ≤ 66846720) }
     {
@@ -210,25 +239,11 @@ impl<'a> Record<'a> {
                 let m = arm64_runs::count_run(self.codes, index as usize)?;
                 ((m as u64) < self.header.length).then_some(m)
             }
-            Epilogues::Scoped(count) => self.count_scoped(count),
-        }
-    }
-
-    // The epilogues for each of which a word stands; n codes stand before theirs.
-    fn put_scoped(&self, count: u64, n: usize, to: &mut Output)
-        requires { (self.now.header.epilogues ≡ Scoped count) × (scoped (word_of self.now) self.now.codes.now 0 count ≡ some (epilogues_in (scoped (word_of self.now) self.now.codes.now 0 count))) × (epilogue_stride * count ≤ length to.old.epilogues.now) × (code_stride * (n + length (epilogue_codes (epilogues_in (scoped (word_of self.now) self.now.codes.now 0 count)))) ≤ length to.old.codes.now) }
-        ensures { ListedIn to.old to.new n (epilogues_in (scoped (word_of self.now) self.now.codes.now 0 count)) }
-    {
-        let mut at = n;
-        for k in 0..count as usize {
-            let w = self.word(count, k);
-            at = to.put_one(
-                k,
-                at,
-                self.codes,
-                4 * (w % header_bits::RESERVED),
-                (w / header_bits::INDEX) as usize,
-            );
+            Epilogues::Scoped(count) => Scopes {
+                record: *self,
+                count,
+            }
+            .count_codes(),
         }
     }
 
@@ -240,9 +255,13 @@ impl<'a> Record<'a> {
         match self.header.epilogues {
             Epilogues::Single(index) => {
                 let start = 4 * (self.header.length - 1 - m as u64);
-                to.put_one(0, n, self.codes, start, index as usize);
+                to.put_one(0, n, start, Run::at(self.codes, index as usize));
             }
-            Epilogues::Scoped(count) => self.put_scoped(count, n, to),
+            Epilogues::Scoped(count) => Scopes {
+                record: *self,
+                count,
+            }
+            .put(n, to),
         }
     }
 }

@@ -15,7 +15,7 @@ use arm64::{Code, fields};
 
 // How many codes the run from a place on has, up to its end code; nothing where there is no run.
 // Kept: a `while let` by places, and not `Run` below: its None would tell the run's end and a place without a code alike.
-#[tactic(auto, using(arm64::proofs::Coded::is_none, arm64::proofs::Coded::is_some, arm64_codes::proofs::Formed::ahead, crate::proofs::Stores::more_first, crate::proofs::Stores::more_none, crate::proofs::Stores::more_on, crate::proofs::Stores::more_out))]
+#[tactic(auto, using(format::proofs::Asked::none_is, format::proofs::Asked::value_is, arm64_codes::proofs::Formed::ahead, crate::proofs::Stores::more_first, crate::proofs::Stores::more_none, crate::proofs::Stores::more_on, crate::proofs::Stores::more_out))]
 pub fn count_run(s: &[u8], at: usize) -> Option<usize>
     ensures { (result ≡ option_of (count_of (run_at s.now at))) × IfSome result (λ n. n ≤ length s.now) }
 {
@@ -50,7 +50,7 @@ pub fn put_code(out: &mut [u64], at: usize, c: Code) -> usize
 
 // The codes of a run that is there, from the next on.
 #[derive(Drop)]
-struct Run<'a> {
+pub struct Run<'a> {
     bytes: &'a [u8],
     next: usize,
     ghost there: { run_at bytes.now next ≡ some (codes_in (run_at bytes.now next)) },
@@ -59,11 +59,36 @@ struct Run<'a> {
 impl<'a> Run<'a> {
     ghost use Rattle.arm64_runs.specs.Left.{codes_left};
 
-    fn at(bytes: &'a [u8], next: usize) -> Run<'a>
+    // The run at a place.
+    pub fn at(bytes: &'a [u8], next: usize) -> Run<'a>
         requires { run_at bytes.now next ≡ some (codes_in (run_at bytes.now next)) }
         ensures { codes_left result ≡ codes_in (run_at bytes.now next) }
     {
         Run { bytes, next }
+    }
+
+    // The codes, in their order.
+    pub fn put(self, out: &mut [u64], at: usize) -> usize
+        requires { at + code_stride * length (codes_left self) ≤ length out.old }
+        ensures { Wrote out.old out.new at result (code_numbers (codes_left self.entry)) }
+    {
+        let mut i = at;
+        for c in self {
+            i = put_code(out, i, c);
+        }
+        i
+    }
+
+    // The codes, the last of them first, at the list's front, up to `end`.
+    pub fn put_back(self, out: &mut [u64], end: usize)
+        requires { (end ≡ code_stride * length (codes_left self)) × (end ≤ length out.old) }
+        ensures { out.new ≡ put out.old 0 (code_numbers (reverse (codes_left self.entry))) }
+    {
+        let mut i = end;
+        for c in self {
+            i -= fields::CODE_STRIDE;
+            put_code(out, i, c);
+        }
     }
 }
 
@@ -84,29 +109,5 @@ impl Iterator for Run<'_> {
         }
         self.next = q;
         Some(c)
-    }
-}
-
-// A run's codes, in its order.
-pub fn put_run(out: &mut [u64], at: usize, s: &[u8], from: usize) -> usize
-    requires { (run_at s.now from ≡ some (codes_in (run_at s.now from))) × (at + code_stride * length (codes_in (run_at s.now from)) ≤ length out.old) }
-    ensures { Wrote out.old out.new at result (code_numbers (codes_in (run_at s.now from))) }
-{
-    let mut i = at;
-    for c in Run::at(s, from) {
-        i = put_code(out, i, c);
-    }
-    i
-}
-
-// The codes of the run at 0, the last of them first, at the list's front, up to `end`.
-pub fn put_back(out: &mut [u64], end: usize, s: &[u8])
-    requires { (run_at s.now 0 ≡ some (codes_in (run_at s.now 0))) × (end ≡ code_stride * length (codes_in (run_at s.now 0))) × (end ≤ length out.old) }
-    ensures { out.new ≡ put out.old 0 (code_numbers (reverse (codes_in (run_at s.now 0)))) }
-{
-    let mut i = end;
-    for c in Run::at(s, 0) {
-        i -= fields::CODE_STRIDE;
-        put_code(out, i, c);
     }
 }

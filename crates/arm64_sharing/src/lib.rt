@@ -38,7 +38,8 @@ pub fn leads(run: &Codes, other: &Codes) -> bool
     run.run.count <= other.run.count && leads_long(run, other)
 }
 
-// Kept: code by code, and no derived equality: runs at two places of the list are the same where their codes are as they are written.
+// Kept: the counts and then the codes by `Code`'s derived equality. `Codes` derives none: two runs of one list are the same at different places. The codes
+// are compared by `leads_long`, which `leads` has too; `eq` of the iterators, over each step's code, would need a closure and laws of its own beside it.
 pub fn same_run(run: &Codes, other: &Codes) -> bool
     ensures { result ≡ same_codes (written_in run.now) (written_in other.now) }
 {

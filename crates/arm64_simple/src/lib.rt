@@ -11,6 +11,8 @@ ghost use Rattle.arm64_simple.specs.Saves.{place_of, saved_at, Inside};
 use arm64::{Code, Part, fields};
 
 // Where the codes of a run stand in a list: an epilogue's save backwards.
+// Kept: places and no slice of the list: `place_of` is one function for both directions, where a slice would be gone over from its front or from its back
+// by two iterators of two types; and the definitions of runs (`saves` here, `epilogue_at` of arm64_function and those on them) have the place in the list.
 #[derive(Clone, Copy)]
 pub struct Run {
     pub at: usize,
@@ -27,6 +29,9 @@ pub struct Codes<'a> {
 }
 
 // What stands before a run's first code: no pair.
+// Kept: a code that is no pair, and no None, here and where `next_pair` answers SaveNext: `pair_in` and `next_pair` of the definitions have these codes. With
+// Option<Code> the contracts of the seven functions on pairs would each say `unwrap_or b no_pair`, the three public ones take another type, and a Step
+// carry 8 bytes more in the loops that are timed.
 pub const NO_PAIR: Code = Code {
     kind: arm64::NOP,
     register: 0,

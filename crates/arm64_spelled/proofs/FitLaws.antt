@@ -78,8 +78,8 @@ module _ (f : Form) (c : Code) (r : register_fits f c ≡ true) (o : offset_fits
   unfolding offset_fits
   in_offsets = o
 
-  pub told : InRanges f c
-  told =
+  pub ranges : InRanges f c
+  ranges =
       let p = both_true (leb f.more c.offset && eqb (c.offset % f.scale) 0) (ltb (offset_field f c) f.unit) in_offsets in
       let q : (f.step ≡ 0 → ⊥) → (leb f.first c.register && leb c.register (get_or last_registers c.kind 0)) ≡ true
       = λ n. (both_true (leb f.first c.register && leb c.register (get_or last_registers c.kind 0)) (eqb ((c.register - f.first) % f.step) 0) (in_registers_lem n)).0 in
@@ -94,19 +94,19 @@ module _ (f : Form) (c : Code) (r : register_fits f c ≡ true) (o : offset_fits
         held = ltb-true (offset_field f c) f.unit p.1;
       }
 
-pub fits_told : (c : Code) → code_fits c ≡ true → InRanges (form_for c) c
+pub fits_ranges : (c : Code) → code_fits c ≡ true → InRanges (form_for c) c
 unfolding code_fits
-fits_told c e =
+fits_ranges c e =
     let p : (register_fits (form_for c) c ≡ true) × (offset_fits (form_for c) c ≡ true)
     = both_true (register_fits (form_for c) c) (offset_fits (form_for c) c) e in
-    told (form_for c) c p.0 p.1
+    ranges (form_for c) c p.0 p.1
 
 -- the largest is an allocation's
 pub fits_low : (c : Code) → code_fits c ≡ true → c.offset < 2 ^ 29
 unfolding offset_field
 fits_low c e =
     let g = form_good c in
-    let t = fits_told c e in
+    let t = fits_ranges c e in
     let h : c.offset - (form_for c).more < (form_for c).unit * (form_for c).scale = (div-lt_iff_lt-mul g.scaled).0 t.held in
     omega (arith, h, g.near, mul-le-mul g.narrow g.coarse)
 

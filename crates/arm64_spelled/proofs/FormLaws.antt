@@ -15,11 +15,7 @@ use Rattle.format.proofs.ListLaws.{chain, chained, in_range}
 use Rattle.arm64.specs.declared.Form.{Form}
 use Rattle.arm64.specs.declared.Code.{Code}
 use Rattle.arm64.specs.Codes.{form_of, short_form, integer_form, vector_form, other_form, form_for, alloc_form, kind_forms, last_registers, reserved, f_alloc_s, f_alloc_m, f_alloc_l}
-use Rattle.arm64_spelled.specs.Forms.{FormGood}
-
-abbrev pub opcodes : List ℕ
-opcodes =
-    0xe0 ∷ 0x20 ∷ 0x40 ∷ 0x80 ∷ 0xc8 ∷ 0xcc ∷ 0xd0 ∷ 0xd4 ∷ 0xd6 ∷ 0xd8 ∷ 0xda ∷ 0xdc ∷ 0xde ∷ 0xe1 ∷ 0xe2 ∷ 0xe3 ∷ 0xe6 ∷ 0xfc ∷ []
+use Rattle.arm64_spelled.specs.Forms.{opcodes, FormGood}
 
 opcode_form : (k : ℕ) → k < 18 → form_of (get_or opcodes k 0xdf) ≡ get_or kind_forms k reserved
 unfolding form_of short_form integer_form vector_form other_form pick

@@ -1,8 +1,13 @@
 -- What holds of the form of a kind, and of a code that its fields hold: the numbers fit 64 bits.
-use Rattle.std.specs.Prelude.{◌≡◌, ℕ, ◌+◌, ◌-◌, ◌*◌, ◌≤◌, ◌<◌, ◌^◌}
+use Rattle.std.specs.Prelude.{◌≡◌, ℕ, ◌+◌, ◌-◌, ◌*◌, ◌≤◌, ◌<◌, ◌^◌, List, [], ◌∷◌}
 use Rattle.arm64.specs.declared.Form.{Form}
 use Rattle.arm64.specs.declared.Code.{Code}
 use Rattle.arm64.specs.Codes.{register_field, offset_field}
+
+-- the first bytes of the kinds in their order; an allocation's is that of its longest form
+abbrev pub opcodes : List ℕ
+opcodes =
+    0xe0 ∷ 0x20 ∷ 0x40 ∷ 0x80 ∷ 0xc8 ∷ 0xcc ∷ 0xd0 ∷ 0xd4 ∷ 0xd6 ∷ 0xd8 ∷ 0xda ∷ 0xdc ∷ 0xde ∷ 0xe1 ∷ 0xe2 ∷ 0xe3 ∷ 0xe6 ∷ 0xfc ∷ []
 
 pub record FormGood (f : Form) : Type 0 where
   pub some_bytes : 1 ≤ f.size

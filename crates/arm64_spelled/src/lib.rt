@@ -5,27 +5,110 @@
 ghost use Rattle.std.specs.Prelude.{◌≡◌, true, ◌+◌, ◌*◌, ◌≤◌, ◌<◌, length, get_or};
 ghost use Rattle.format.proofs.Wrote.{Wrote};
 ghost use Rattle.arm64.specs.Codes.{last_registers, form_of, form_for, register_field, offset_field, register_fits, offset_fits, code_fits, code_bytes, big};
-ghost use Rattle.arm64_spelled.specs.Forms.{FormGood, InRanges, word_of};
+ghost use Rattle.arm64_spelled.specs.Forms.{opcodes, FormGood, InRanges, word_of};
 
 use arm64::{Code, Form};
 
 // ---- the form
 
-// The first byte of a kind whose fields are 0; an allocation's goes by its size.
-const OPCODES: [u8; 18] = [
-    0xe0, 0x20, 0x40, 0x80, 0xc8, 0xcc, 0xd0, 0xd4, 0xd6, 0xd8, 0xda, 0xdc, 0xde, 0xe1, 0xe2, 0xe3,
-    0xe6, 0xfc,
+// How a kind is spelled: the first byte where its fields are 0, and the last register that it can name.
+#[derive(Clone, Copy)]
+struct Kind {
+    opcode: u8,
+    last: u8,
+}
+
+// The kinds in the order of their numbers; an allocation's first byte goes by its size.
+const KINDS: [Kind; 18] = [
+    Kind {
+        opcode: 0xe0,
+        last: 0,
+    },
+    Kind {
+        opcode: 0x20,
+        last: 0,
+    },
+    Kind {
+        opcode: 0x40,
+        last: 0,
+    },
+    Kind {
+        opcode: 0x80,
+        last: 0,
+    },
+    Kind {
+        opcode: 0xc8,
+        last: 28,
+    },
+    Kind {
+        opcode: 0xcc,
+        last: 28,
+    },
+    Kind {
+        opcode: 0xd0,
+        last: 30,
+    },
+    Kind {
+        opcode: 0xd4,
+        last: 30,
+    },
+    Kind {
+        opcode: 0xd6,
+        last: 27,
+    },
+    Kind {
+        opcode: 0xd8,
+        last: 14,
+    },
+    Kind {
+        opcode: 0xda,
+        last: 14,
+    },
+    Kind {
+        opcode: 0xdc,
+        last: 15,
+    },
+    Kind {
+        opcode: 0xde,
+        last: 15,
+    },
+    Kind {
+        opcode: 0xe1,
+        last: 0,
+    },
+    Kind {
+        opcode: 0xe2,
+        last: 0,
+    },
+    Kind {
+        opcode: 0xe3,
+        last: 0,
+    },
+    Kind {
+        opcode: 0xe6,
+        last: 0,
+    },
+    Kind {
+        opcode: 0xfc,
+        last: 0,
+    },
 ];
-// The last register that a kind can name.
-const LAST: [u64; 18] = [
-    0, 0, 0, 0, 28, 28, 30, 30, 27, 14, 14, 15, 15, 0, 0, 0, 0, 0,
-];
+
+// The kind of a number: a first byte that no code has and no register where it is no kind's.
+fn kind_of(kind: u64) -> Kind
+    ensures { (result.opcode ≡ get_or opcodes kind 0xdf) × (result.last ≡ get_or last_registers kind 0) }
+{
+    KINDS.get(kind as usize).copied().unwrap_or(Kind {
+        opcode: 0xdf,
+        last: 0,
+    })
+}
 
 fn opcode(c: Code) -> u64
     ensures { form_of result ≡ form_for c }
 {
     if c.kind != arm64::ALLOC {
-        return u64::from(OPCODES.get(c.kind as usize).copied().unwrap_or(0xdf));
+        return u64::from(kind_of(c.kind).opcode);
     }
     match c.offset / 16 {
         0..32 => 0x00,
@@ -64,7 +147,7 @@ impl Spelling {
         if register < self.form.first {
             return false;
         }
-        if last_register(self.code.kind) < register {
+        if u64::from(kind_of(self.code.kind).last) < register {
             return false;
         }
         (register - self.form.first) % self.form.step == 0
@@ -108,13 +191,6 @@ impl Spelling {
             _ => 16777216 * f.op + field,
         }
     }
-}
-
-// The last register that a kind can name.
-fn last_register(kind: u64) -> u64
-    ensures { result ≡ get_or last_registers kind 0 }
-{
-    LAST.get(kind as usize).copied().unwrap_or(0)
 }
 
 // Whether the register is one that the kind can name.

@@ -26,14 +26,14 @@ use unwind::Written;
 
 // ---- one function
 
-// Kept: the list and the place stand side by side here: a struct that lends the list would ask each contract to say that it is the same list still,
-// which a slice needs not say.
 // The bytes of a row of .pdata.
 const ROW: usize = 8;
 
 // Where the word stands in it.
 const WORD: u64 = 4;
 
+// Kept: the list and the place stand side by side in `put_row` and `put_row_relocs`: a struct of the two would make their contracts, and those of leb's `le`
+// and relocs' `relocation` below, say beside the numbers that the same list is lent still (its ghost_name), where `Wrote` of a slice says all.
 // A row's bytes: the blank of the function's start, and its word.
 fn put_row(out: &mut [u8], at: usize, word: u64) -> usize
     requires { at + row_size ≤ length out.old }
@@ -243,10 +243,7 @@ pub fn table(
         codes,
     };
     if !lists.ok() {
-        return Err(Refusal {
-            question: Question::Lists,
-            position: 0,
-        });
+        return Err(Question::Lists.into());
     }
     let mut to = Output {
         places: markers,

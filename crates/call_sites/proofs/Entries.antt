@@ -1,5 +1,5 @@
 -- One entry at a position: its four numbers one behind the other, and whether it covers an offset.
-use mathlib.Core.Path.{◌≡◌, sym, ◌∙◌}
+use mathlib.Core.Path.{◌≡◌, sym, ap, ◌∙◌}
 use Prim.Native.Nat.{ℕ, suc, ◌+◌, ◌-◌, ◌^◌, ◌≤◌, ◌<◌}
 use native.Mathlib.Omega.{arith}
 use mathlib.Core.Bool.{Bool, false}
@@ -15,7 +15,8 @@ use Rattle.format.specs.CallSiteReader.{site_of, read_site, covers}
 use Rattle.format.proofs.Choice.{if-le, if-gt, either}
 use Rattle.operations.specs.Positions.{uleb_at}
 use Rattle.operations.proofs.PositionLaws.{uleb_ahead, uleb_rest, uleb_none}
-use Rattle.call_sites.specs.Reads.{EntryThere}
+use Rattle.call_sites.specs.Reads.{short_from, EntryThere}
+use Rattle.call_sites.proofs.Marks.{number_on}
 
 module _ (s : List ℕ) (p : Position) where
   pub no_start : uleb_at s p ≡ None → read_site (drop p.at s) ≡ none
@@ -38,6 +39,12 @@ module _ (s : List ℕ) (p : Position) where
         no_action e = rw (uleb_rest s p e₁, uleb_rest s q₁ e₂, uleb_rest s q₂ e₃, uleb_none s q₃ e)
 
         module _ {action : ℕ} {q : Position} (e₄ : uleb_at s q₃ ≡ Some (action, q)) where
+          four_on : (f : ℕ) → 4 ≤ f → short_from s p f ≡ short_from s q (f - 4)
+          four_on f h =
+              let g : ℕ = f - 4 in
+              let i : f ≡ suc (suc (suc (suc g))) = omega arith in
+              ap (short_from s p) i ∙ number_on s p e₁ (suc (suc (suc g))) ∙ number_on s q₁ e₂ (suc (suc g)) ∙ number_on s q₂ e₃ (suc g) ∙ number_on s q₃ e₄ g
+
           pub too_far : 2 ^ 64 ≤ start + size → read_site (drop p.at s) ≡ none
           unfolding read_site next
           too_far h =
@@ -50,6 +57,7 @@ module _ (s : List ℕ) (p : Position) where
             ahead = omega (arith, (uleb_ahead s p e₁).0, (uleb_ahead s q₁ e₂).0, (uleb_ahead s q₂ e₃).0, (uleb_ahead s q₃ e₄).0);
             inside = (uleb_ahead s q₃ e₄).1;
             reads = rw (uleb_rest s p e₁, uleb_rest s q₁ e₂, uleb_rest s q₂ e₃, uleb_rest s q₃ e₄, if-le (suc (start + size)) (2 ^ 64));
+            marks = four_on;
           }
 
 -- ---- an offset

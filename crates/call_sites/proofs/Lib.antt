@@ -1,4 +1,5 @@
 -- The laws that the proofs of this crate's functions cite.
+pub mod Marks
 pub mod Entries
 pub mod Runs
 pub mod Tables

@@ -2,7 +2,7 @@
 use mathlib.Core.Path.{◌≡◌, refl, sym, ap, ◌∙◌}
 use Prim.Native.Nat.{ℕ, zero, suc, ◌+◌, ◌-◌, ◌≤◌, ◌<◌}
 use native.Mathlib.Omega.{arith}
-use mathlib.Core.Bool.{Bool, true, false}
+use mathlib.Core.Bool.{Bool, true, false, ◌&&◌}
 use mathlib.Core.Option.{Option, none, some}
 use mathlib.Core.List.{List, [], ◌∷◌, ◌++◌, append_assoc, append-nil}
 use lib.ListN.{length, drop, length-drop, drop_of_length-le}
@@ -15,9 +15,10 @@ use Rattle.format.specs.Lists.{Landing}
 use Rattle.format.specs.CallSiteReader.{site_of, read_site, read_sites_f, read_sites, covers}
 use Rattle.format.proofs.Choice.{pick_yes, pick_no, tested}
 use Rattle.operations.specs.declared.fields.Position.{Position}
-use Rattle.operations.specs.Positions.{from}
 use Rattle.call_sites.specs.declared.Entry.{Entry}
-use Rattle.call_sites.specs.Reads.{landing_of, EntryThere, entry_of, first_covering}
+use Rattle.format.specs.Shortest.{every_short}
+use Rattle.call_sites.specs.Reads.{landing_of, short_from, EntryThere, entry_of, first_covering, with_mark}
+use Rattle.call_sites.proofs.Marks.{at_end}
 
 -- ---- one step of the definition
 
@@ -63,18 +64,30 @@ module _ {A : Type 0} (f : A → Bool) where
 
 -- ---- the loop
 
-pub record Going (offset : ℕ) (s : List ℕ) (p : Position) (found : code.Option Entry) : Type 0 where
+pub record Going (offset : ℕ) (s : List ℕ) (shortest : Bool) (p : Position) (found : code.Option Entry) : Type 0 where
   fuel : ℕ
   before : List Landing
   enough : length s < fuel + p.at
   inside : p.at ≤ length s
   same : read_sites s ≡ after (read_sites_f fuel (drop p.at s)) (λ ls. some (before ++ ls))
   here : found ≡ entry_of (first (covers offset) before)
+  numbers : ℕ
+  every : length s ≤ numbers + p.at
+  marks : (shortest && every_short s) ≡ short_from s p numbers
 
-pub start : {offset : ℕ} {s : List ℕ} → Going offset s (from 0) None
-unfolding read_sites first
-start {s = s} =
-    record { fuel = suc (length s); before = []; enough = omega arith; inside = omega arith; same = in_front (read_sites_f (suc (length s)) s); here = refl }
+pub start : {offset : ℕ} {s : List ℕ} {shortest : Bool} → Going offset s shortest (record { at = 0; shortest = shortest }) None
+unfolding read_sites first every_short
+start {s = s} = record {
+  fuel = suc (length s);
+  before = [];
+  enough = omega arith;
+  inside = omega arith;
+  same = in_front (read_sites_f (suc (length s)) s);
+  here = refl;
+  numbers = length s;
+  every = omega arith;
+  marks = refl;
+}
 
 -- ---- the entry that covers the offset
 
@@ -93,13 +106,13 @@ kept_by : (offset : ℕ) (xs : List Landing) (e : Entry) (o : Option Landing) �
 kept_by offset xs e none h = rw (first_none (covers offset) xs (landing_of e) h) (kept_none (covers offset (landing_of e)) e)
 kept_by offset xs e (some x) h = rw (first_some (covers offset) xs (landing_of e ∷ []) x h)
 
-module _ {offset : ℕ} {s : List ℕ} {p : Position} {found : code.Option Entry} (g : Going offset s p found) where
+module _ {offset : ℕ} {s : List ℕ} {shortest : Bool} {p : Position} {found : code.Option Entry} (g : Going offset s shortest p found) where
   module _ (h : p.at < length s) where
     step : read_sites s ≡ after (next (read_site (drop p.at s)) (λ l rest. after (read_sites_f (g.fuel - 1) rest) λ ls. some (l ∷ ls))) (λ ls. some (g.before ++ ls))
     step = g.same ∙ ap (λ r. after r (λ ls. some (g.before ++ ls))) (sites_step g.fuel (drop p.at s) (omega (arith, g.enough)) (omega (arith, length-drop p.at s)))
 
     pub turn : (e : Entry) {q : Position} {b : Bool} {this newer : code.Option Entry} → EntryThere s p (landing_of e) q → b ≡ covers offset (landing_of e)
-        → this ≡ then_some b e → newer ≡ option_or found this → Going offset s q newer
+        → this ≡ then_some b e → newer ≡ option_or found this → Going offset s shortest q newer
     unfolding next
     turn e {q = q} c i j k = record {
       fuel = g.fuel - 1;
@@ -108,16 +121,22 @@ module _ {offset : ℕ} {s : List ℕ} {p : Position} {found : code.Option Entry
       inside = c.inside;
       same = (rw c.reads at step) ∙ one_more g.before (landing_of e) (read_sites_f (g.fuel - 1) (drop q.at s));
       here = k ∙ rw (j, i, g.here) (kept_by offset g.before e (first (covers offset) g.before) refl);
+      numbers = g.numbers - 4;
+      every = omega (arith, g.every, c.ahead);
+      marks = g.marks ∙ c.marks g.numbers (omega (arith, g.every, c.ahead, c.inside));
     }
 
-    pub unread : read_site (drop p.at s) ≡ none → Err 72 ≡ first_covering offset s
+    pub unread : read_site (drop p.at s) ≡ none → Err 72 ≡ with_mark (first_covering offset s) (shortest && every_short s)
     unfolding next after first_covering or_else onward
     unread e = let r : read_sites s ≡ none = rw e at step in rw r
 
-  pub ended : length s ≤ p.at → Ok found ≡ first_covering offset s
+  all_read : length s ≤ p.at → Ok found ≡ first_covering offset s
   unfolding after first_covering or_else onward
-  ended h =
+  all_read h =
       let e : drop p.at s ≡ [] = drop_of_length-le s h in
       let d : read_sites_f g.fuel (drop p.at s) ≡ some [] = rw e (sites_done g.fuel (omega (arith, g.enough, g.inside))) in
       let r : read_sites s ≡ some g.before = g.same ∙ rw (d, append-nil g.before) in
       rw r (ap Ok g.here)
+
+  pub ended : length s ≤ p.at → Ok (record { entry = found; shortest = p.shortest }) ≡ with_mark (first_covering offset s) (shortest && every_short s)
+  ended h = rw (← all_read h, g.marks, at_end s p g.numbers h)

@@ -2,11 +2,11 @@
 // rucc-asm/src/unwind.rs of tamnd/rucc does not have.
 #![tactic(auto)]
 
-ghost use Rattle.std.specs.Prelude.{◌≡◌};
+ghost use Rattle.std.specs.Prelude.{◌≡◌, ◌&&◌};
 ghost use Rattle.format.specs.Coded.{numbered};
 ghost use Rattle.format.specs.Shortest.{every_short};
 ghost use Rattle.format.specs.CallSiteReader.{covers, head_ok, site_at, sites_short, marked_site};
-ghost use Rattle.call_sites.specs.Reads.{landing_of, EntrySays, TableThere, TableSays, first_covering, answer_of, marked_of};
+ghost use Rattle.call_sites.specs.Reads.{landing_of, EntrySays, TableSays, read_of, first_covering, with_mark, found_numbers, marked_of};
 
 use format::Question;
 use numbers::encodings;
@@ -35,31 +35,17 @@ fn entry_at(s: &[u8], at: Position) -> Option<(Entry, Position)>
     Some((Entry { start, length, pad }, past))
 }
 
-fn covers(entry: Entry, offset: u64) -> bool
-    ensures { result ≡ covers offset (landing_of entry) }
-{
-    entry.start <= offset && offset - entry.start < entry.length
+impl Entry {
+    // Kept: the same line stands in walk (`holds`) and in reads (`record_holds`), which meet a definition each, over numbers, a struct and an Option of two
+    // numbers. One function would need a definition of its own, in a crate below all three, and a law to each of the three.
+    fn covers(self, offset: u64) -> bool
+        ensures { result ≡ covers offset (landing_of self) }
+    {
+        self.start <= offset && offset - self.start < self.length
+    }
 }
 
 // ---- a table
-
-// The entries of a table, all read, and the first of them that covers the offset.
-fn search(s: &[u8], offset: u64) -> Result<Option<Entry>, Question>
-    ensures { numbered result ≡ first_covering offset s.now }
-{
-    let mut at = Position::START;
-    let mut found = None;
-    // Kept: a `while`. An iterator whose last item may be no entry would have these lines in its `next`, and a test of each item here besides;
-    // no other loop goes over a table's entries.
-    while at.at < s.len() {
-        let Some((entry, past)) = entry_at(s, at) else {
-            return Err(Question::CallSites);
-        };
-        found = found.or(covers(entry, offset).then_some(entry));
-        at = past;
-    }
-    Ok(found)
-}
 
 fn head_ok(base: u8, types: u8, encoding: u8) -> bool
     ensures { result ≡ head_ok base types encoding }
@@ -69,11 +55,11 @@ fn head_ok(base: u8, types: u8, encoding: u8) -> bool
         && encoding == encodings::DW_EH_PE_ULEB128
 }
 
-// Where the entries of a table start and end.
+// The bytes of a table's entries, and whether its length in front of them is spelled shortest.
 #[derive(Clone, Copy)]
-pub struct Table {
-    pub at: usize,
-    pub past: usize,
+pub struct Table<'a> {
+    pub entries: &'a [u8],
+    pub shortest: bool,
 }
 
 fn table_at(sites: &[u8], place: u64) -> Option<Table>
@@ -87,54 +73,62 @@ fn table_at(sites: &[u8], place: u64) -> Option<Table>
     if !head_ok(sites[p], sites[p + 1], sites[p + 2]) {
         return None;
     }
-    let head = Position {
-        at: p + 3,
-        shortest: true,
-    };
+    let head = Position::from(p + 3);
     let (n, counted) = read_uleb(sites, head)?;
     let at = counted.at;
     if size - at < n as usize {
         return None;
     }
     Some(Table {
-        at,
-        past: at + n as usize,
+        entries: &sites[at..at + n as usize],
+        shortest: counted.shortest,
     })
 }
 
-// ---- how the numbers of a table are spelled
-
-// The numbers of its entries, all unsigned.
-fn every_short(s: &[u8]) -> bool
-    ensures { result ≡ every_short s.now }
-{
-    let mut at = Position::START;
-    // Kept: a `while`, as in `search`: no other loop goes over numbers one by one.
-    while at.at < s.len() {
-        let Some((_, past)) = read_uleb(s, at) else {
-            return false;
-        };
-        if !past.shortest {
-            return false;
-        }
-        at = past;
-    }
-    true
+// What a table has for an offset: the first entry that covers it, and whether every number of the table is spelled shortest.
+#[derive(Clone, Copy)]
+pub struct Found {
+    pub entry: Option<Entry>,
+    pub shortest: bool,
 }
 
-// Its length, which stands behind the three bytes of its head, and its entries.
-fn table_short(sites: &[u8], place: u64, table: Table) -> bool
-    requires { TableThere sites.now place table.at table.past }
-    ensures { result ≡ sites_short sites.now place }
+impl Table<'_> {
+    // Every entry is read, also behind the one that is found.
+    fn search(&self, offset: u64) -> Result<Found, Question>
+        ensures { numbered result ≡ with_mark (first_covering offset self.now.entries.now) (self.now.shortest && every_short self.now.entries.now) }
+    {
+        let s = self.entries;
+        let mut at = Position {
+            at: 0,
+            shortest: self.shortest,
+        };
+        let mut found = None;
+        // Kept: a `while`. An iterator over the entries would be a struct of the bytes and the position, with an `impl Iterator` whose items are
+        // Options (an entry may be unreadable) and whose position is asked for once more behind the loop: twenty lines for this one loop.
+        while at.at < s.len() {
+            let Some((entry, past)) = entry_at(s, at) else {
+                return Err(Question::CallSites);
+            };
+            found = found.or(entry.covers(offset).then_some(entry));
+            at = past;
+        }
+        Ok(Found {
+            entry: found,
+            shortest: at.shortest,
+        })
+    }
+}
+
+// What the table at a place has for an offset.
+fn look_up(sites: &[u8], place: u64, offset: u64) -> Result<Found, Question>
+    ensures { numbered result ≡ with_mark (read_of (site_at sites.now place offset)) (sites_short sites.now place) }
 {
-    let head = Position {
-        at: place as usize + 3,
-        shortest: true,
+    // Kept: `let .. else`, here and on `entry_at`'s answer (D121). What `ok_or(..)?` answers is told by two laws (`given` and `lacking` of reader's
+    // proofs/Acting), which would stand here once more.
+    let Some(table) = table_at(sites, place) else {
+        return Err(Question::CallSiteTable);
     };
-    let Some((_, counted)) = read_uleb(sites, head) else {
-        return false;
-    };
-    counted.shortest && every_short(&sites[table.at..table.past])
+    table.search(offset)
 }
 
 // ---- the answer
@@ -142,7 +136,7 @@ fn table_short(sites: &[u8], place: u64, table: Table) -> bool
 // What unwind_call_site answers.
 // Kept: a number, and 0 or 1 for what may be missing, since C reads it.
 #[repr(C)]
-#[derive(Clone, Copy)]
+#[derive(Clone, Copy, Default)]
 pub struct Site {
     pub number: u64,
     pub found: u64,
@@ -152,43 +146,40 @@ pub struct Site {
     pub shortest: u64,
 }
 
-impl Site {
-    // Answered, and no entry covers the offset; the mark is not set.
-    const NONE: Site = Site {
-        number: 0,
-        found: 0,
-        start: 0,
-        length: 0,
-        pad: 0,
-        shortest: 0,
-    };
-}
+// A refusal has no mark.
+impl From<Result<Found, Question>> for Site {
+    ghost from_gives = { λ r s. marked_of s ≡ found_numbers (numbered r) };
 
-// The answer in C's form. A refusal has no mark.
-fn answered(read: Result<Option<Entry>, Question>, shortest: bool) -> Site
-    ensures { marked_of result ≡ answer_of (numbered read) shortest }
-{
-    let found = match read {
-        Err(question) => return Site {
-            number: question.number(),
-            ..Site::NONE
-        },
-        Ok(found) => found,
-    };
-    let shortest = u64::from(shortest);
-    match found {
-        None => Site {
-            shortest,
-            ..Site::NONE
-        },
-        Some(entry) => Site {
-            number: 0,
-            found: 1,
-            start: entry.start,
-            length: entry.length,
-            pad: entry.pad,
-            shortest,
-        },
+    #[tactic(auto, unfolding(crate::specs::Reads::answer_of, format::specs::Answers::bit))]
+    fn from(read: Result<Found, Question>) -> Site {
+        match read {
+            Err(question) => Site {
+                number: question.number(),
+                ..Site::default()
+            },
+            Ok(
+                Found {
+                    entry: None,
+                    shortest,
+                },
+            ) => Site {
+                shortest: u64::from(shortest),
+                ..Site::default()
+            },
+            Ok(
+                Found {
+                    entry: Some(entry),
+                    shortest,
+                },
+            ) => Site {
+                number: 0,
+                found: 1,
+                start: entry.start,
+                length: entry.length,
+                pad: entry.pad,
+                shortest: u64::from(shortest),
+            },
+        }
     }
 }
 
@@ -198,9 +189,5 @@ fn answered(read: Result<Option<Entry>, Question>, shortest: bool) -> Site
 pub extern "C" fn unwind_call_site(sites: &[u8], place: u64, offset: u64) -> Site
     ensures { marked_of result ≡ marked_site (site_at sites.now place offset) (sites_short sites.now place) }
 {
-    let Some(table) = table_at(sites, place) else {
-        return answered(Err(Question::CallSiteTable), false);
-    };
-    let read = search(&sites[table.at..table.past], offset);
-    answered(read, table_short(sites, place, table))
+    Site::from(look_up(sites, place, offset))
 }

@@ -39,7 +39,7 @@ struct Buffers {
 }
 
 // How many lists of each kind there were.
-#[derive(Clone, Copy)]
+#[derive(Clone, Copy, Default)]
 struct Sums {
     accepted: u64,
     refused: u64,
@@ -292,12 +292,7 @@ fn add(s: Sums, kind: Kind) -> Sums
 fn all(rt: &impl Print, input: &mut impl Read) -> io::Result<Sums>
     ensures { IfOk result (λ sums. total sums ≤ 1000000) }
 {
-    let mut sums = Sums {
-        accepted: 0,
-        refused: 0,
-        empty: 0,
-        different: 0,
-    };
+    let mut sums = Sums::default();
     for index in 0..1000000 {
         let Some(kind) = next(rt, input, index)? else {
             return Ok(sums);

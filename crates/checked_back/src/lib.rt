@@ -12,7 +12,9 @@ use section_check::Checked;
 
 // `relaxed_table`, and then the check of exactly what was written, with the machine's word: where the list was accepted for ELF, every
 // function passes the row check and none is relaxed, the section passes. Where the writer refused, the check is handed nothing.
-// Kept: the lists one by one, since the promises of the entries that it calls name each of them.
+// Kept: the lists one by one. `Writes`, `check_for` and `PassesBack` of the theorem in README name each of them; in `lists::Lists` and `lists::output::Output`
+// each clause would name a field of another value (`to.old.places.now`), and one more would say that the caller's own lists are lent in it
+// still (`SameLists`).
 pub fn write_and_check(
     machine: &[u64],
     format: u64,

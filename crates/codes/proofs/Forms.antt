@@ -1,16 +1,21 @@
 -- The forms of a code: an operation with its info and a field behind it, and which form an allocation and a save take.
-use mathlib.Core.Path.{◌≡◌, refl, sym, ap, ◌∙◌}
+use mathlib.Core.Path.{◌≡◌, refl, ap, ◌∙◌}
 use Prim.Native.Nat.{ℕ, zero, suc, ◌+◌, ◌-◌, ◌*◌, ◌/◌, ◌%◌, ◌≤◌, ◌<◌}
 use native.Mathlib.Omega.{arith}
 use native.Mathlib.Numerals.{add-one}
 use mathlib.Core.Bool.{Bool, true, false, ◌&&◌}
 use mathlib.Core.List.{List, [], ◌∷◌, ◌++◌}
 use lib.Dec.{leb, ltb, eqb}
-use lib.ListN.{length, take}
+use lib.ListN.{length, take, get_or}
+use borrow.Author.Tests.{lt-ltb, le-ltb}
+use Rattle.std.specs.Int.{bytes_low_first}
+use Rattle.std.specs.Prelude.{Result, Ok, Err, Some, None}
+use Rattle.std.specs.Result.{OkIff, result_ok, is_ok}
+use Rattle.std.specs.Option.{is_some}
 use Rattle.format.specs.Prelude.{pick}
 use Rattle.format.specs.Leb.{little}
 use Rattle.format.specs.X64.{node, alloc_bytes, slot_bytes, save_bytes}
-use Rattle.format.proofs.Choice.{if-le, if-gt}
+use Rattle.format.proofs.Choice.{if-le, if-gt, either}
 use Rattle.format.proofs.LebBack.{little-length}
 use Rattle.codes.specs.Codes.{Holds, is_near, alloc_size, save_size}
 
@@ -26,13 +31,22 @@ little-take zero m v h = refl
 little-take (suc n) zero v h = absurd (omega arith)
 little-take (suc n) (suc m) v h = ap (λ (l : List ℕ). v % 256 ∷ l) (little-take n m (v / 256) (omega arith))
 
-pub form_holds : (at op info n v : ℕ) → n ≤ 4
-    → Holds (record { bytes = at ∷ (op + 16 * info) ∷ v % 256 ∷ v / 256 % 256 ∷ v / 256 / 256 % 256 ∷ v / 256 / 256 / 256 % 256 ∷ []; count = 2 + n }) (node at op info ++ little n v)
+-- a number's four bytes by the library
+four_bytes : (v : ℕ) → bytes_low_first 0 4 v ≡ little 4 v
+unfolding little
+four_bytes v =
+    let b : v / 65536 % 256 ≡ v / 256 / 256 % 256 = omega arith in
+    let c : v / 16777216 % 256 ≡ v / 256 / 256 / 256 % 256 = omega arith in
+    rw (b, c)
+
+pub form_holds : (at op info n v : ℕ) (bs : List ℕ) → n ≤ 4 → bs ≡ bytes_low_first 0 4 v
+    → Holds (record { bytes = at ∷ (op + 16 * info) ∷ get_or bs 0 0 ∷ get_or bs 1 0 ∷ get_or bs 2 0 ∷ get_or bs 3 0 ∷ []; count = 2 + n }) (node at op info ++ little n v)
 unfolding node little
-form_holds at op info n v h =
-    let e : 2 + n ≡ suc (suc n) = omega arith in
+form_holds at op info n v bs h e =
+    let e2 : 2 + n ≡ suc (suc n) = omega arith in
+    let f = e ∙ four_bytes v in
     record {
-      bytes = rw e (ap (λ (l : List ℕ). at ∷ (op + 16 * info) ∷ l) (little-take n 4 v h));
+      bytes = rw e2 (rw f (ap (λ (l : List ℕ). at ∷ (op + 16 * info) ∷ l) (little-take n 4 v h)));
       counted = omega (arith, little-length n v);
       most = omega arith;
       six = refl;
@@ -56,14 +70,51 @@ module _ (at size : ℕ) where
 
 -- ---- a save
 
-module _ (near unit at reg above : ℕ) {b : Bool} (e : b ≡ is_near unit above) where
-  pub slot_near : b ≡ true → slot_bytes near unit at reg above ≡ node at near reg ++ little 2 (above / unit)
+module _ (near unit at reg above : ℕ) where
+  pub slot_near : is_near unit above ≡ true → slot_bytes near unit at reg above ≡ node at near reg ++ little 2 (above / unit)
   unfolding is_near slot_bytes pick
-  slot_near t = rw (sym e ∙ t)
+  slot_near t = rw t
 
-  pub slot_far : b ≡ false → slot_bytes near unit at reg above ≡ node at (near + 1) reg ++ little 4 above
+  pub slot_far : is_near unit above ≡ false → slot_bytes near unit at reg above ≡ node at (near + 1) reg ++ little 4 above
   unfolding is_near slot_bytes pick
-  slot_far t = rw (sym e ∙ t, add-one near)
+  slot_far t = rw (t, add-one near)
+
+-- ---- by the library's conversion to 16 bits
+
+pub ok_says : {E P : Type 0} (r : Result ℕ E) (m v : ℕ) → r ≡ Ok m → OkIff r P v → P × (m ≡ v)
+ok_says r m v e h = rw e at h
+
+pub err_says : {E P : Type 0} (r : Result ℕ E) (v : ℕ) → ((x : ℕ) → r ≡ Ok x → ⊥) → OkIff r P v → P → ⊥
+err_says (Ok x) v n h p = n x refl
+err_says (Err e) v n h p = h p
+
+pub ok_holds : {E P : Type 0} (r : Result ℕ E) (v : ℕ) → true ≡ is_ok r → OkIff r P v → P
+ok_holds (Ok x) v e h = h.0
+ok_holds (Err x) v e h = cc
+
+pub not_ok : {E P : Type 0} (r : Result ℕ E) (v : ℕ) → false ≡ is_ok r → OkIff r P v → P → ⊥
+not_ok (Ok x) v e h p = cc
+not_ok (Err x) v e h p = h p
+
+pub in_units : {E : Type 0} (n unit : ℕ) (r : Result ℕ E) → OkIff r (n / unit < 65536) (n / unit) → n % unit ≡ 0 → result_ok r ≡ pick (is_near unit n) (Some (n / unit)) None
+unfolding is_near pick
+in_units n unit (Ok x) h e = simp (e, lt-ltb (n / unit) 65536 h.0, h.1)
+in_units n unit (Err x) h e = let g : 65536 ≤ n / unit = either 65536 (n / unit) (λ g. g) (λ l. absurd (h l)) in simp (e, le-ltb (n / unit) 65536 g)
+
+pub some_picked : (b : Bool) (v n : ℕ) → pick b (Some v) None ≡ Some n → (b ≡ true) × (n ≡ v)
+unfolding pick
+some_picked true v n e = (refl, cc)
+some_picked false v n e = absurd (cc)
+
+pub none_picked : (b : Bool) (v : ℕ) → pick b (Some v) None ≡ None → b ≡ false
+unfolding pick
+none_picked true v e = cc
+none_picked false v e = refl
+
+pub is_some_picked : (b : Bool) (v : ℕ) → is_some (pick b (Some v) None) ≡ b
+unfolding pick
+is_some_picked true v = refl
+is_some_picked false v = refl
 
 -- ---- lengths
 

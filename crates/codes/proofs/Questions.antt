@@ -1,6 +1,6 @@
 -- The questions of one code: by the code's tests, and what an answer and a yes say.
 use mathlib.Core.Path.{◌≡◌, refl, sym, ap, ◌∙◌}
-use Prim.Native.Nat.{ℕ, ◌%◌, ◌^◌, ◌≤◌, ◌<◌}
+use Prim.Native.Nat.{ℕ, suc, ◌%◌, ◌^◌, ◌≤◌, ◌<◌}
 use native.Mathlib.Omega.{arith}
 use mathlib.Core.Bool.{Bool, true, false, not, ◌||◌}
 use mathlib.Core.Option.{Option, none, some}
@@ -14,9 +14,9 @@ use mir.Val.{SFits, of_z, to_z}
 use mir.Facts.{to_z-of_z, and_yes, or_no, eqb_no, T_not-not}
 use Rattle.format.specs.Prelude.{pick}
 use Rattle.format.specs.declared.Seh.{Seh}
-use Rattle.format.specs.declared.Seh.TheVariants.{Frame}
-use Rattle.format.specs.X64.{size64, register_in, alloc_no, save_no, operand_no, code_no, frame_ok, frame_no}
-use Rattle.format.proofs.Choice.{if-le, if-gt}
+use Rattle.format.specs.declared.Seh.TheVariants.{Push, Alloc, Frame, Save}
+use Rattle.format.specs.X64.{size64, register_in, alloc_no, save_no, operand_no, code_no, frame_ok, frame_no, frame_or}
+use Rattle.format.proofs.Choice.{pick_no}
 use Rattle.rows.proofs.Signs.{negative, positive}
 use Rattle.codes.specs.Codes.{yes_or_no}
 
@@ -88,19 +88,19 @@ module _ {z : ℤ} (f : SFits w64 z) where
 
 -- ---- a code, by its parts
 
-module _ (at : ℕ) (code : Seh) {reg : ℕ} (e : reg ≡ register_in code) where
-  pub no_register : 15 < reg → Err 34 ≡ yes_or_no (code_no (at, code))
-  unfolding yes_or_no code_no
-  no_register h = rw (← e, if-gt reg 15)
+module _ (at : ℕ) (code : Seh) {b : Bool} (e : b ≡ leb (register_in code) 15) where
+  pub no_register : b ≡ false → Err 34 ≡ yes_or_no (code_no (at, code))
+  unfolding yes_or_no code_no pick
+  no_register h = rw (sym e ∙ h)
 
-  module _ (h : reg ≤ 15) where
+  module _ (h : b ≡ true) where
     pub no_offset : 255 < at → Err 35 ≡ yes_or_no (code_no (at, code))
-    unfolding yes_or_no code_no
-    no_offset l = rw (← e, if-le reg 15, if-gt at 255)
+    unfolding yes_or_no code_no pick
+    no_offset l = rw (sym e ∙ h, lt-leb at 255 l)
 
     pub no_operand : at ≤ 255 → yes_or_no (operand_no code) ≡ yes_or_no (code_no (at, code))
-    unfolding code_no
-    no_operand l = rw (← e, if-le reg 15, if-le at 255)
+    unfolding code_no pick
+    no_operand l = rw (sym e ∙ h, le-leb at 255 l)
 
 -- ---- what an answer says
 
@@ -143,13 +143,22 @@ said at code e =
     let b = yes_of 35 (operand_no code) (leb at 255) a.1 in
     record { register = leb→le (register_in code) 15 a.0; offset = leb→le at 255 b.0; operand = b.1 }
 
-pub alloc_said : (z : ℤ) → alloc_no z ≡ none → 8 ≤ size64 z
+pub alloc_said : (z : ℤ) → alloc_no z ≡ none → (8 ≤ size64 z) × (size64 z < 2 ^ 32)
 alloc_said z e =
-    let n = size64 z in
-    let t = or_no (eqb n 0) (not (eqb (n % 8) 0)) (no_of 36 (pick (ltb n (2 ^ 32)) none (some 37)) (eqb n 0 || not (eqb (n % 8) 0)) (sym (alloc_as z) ∙ e)) in
-    let a : n ≡ 0 → ⊥ = eqb_no {a = n} {b = 0} t.0 in
-    let b : n % 8 ≡ 0 = eqb→eq (n % 8) 0 (T_not-not (eqb (n % 8) 0) t.1) in
-    omega arith
+    let n : ℕ = size64 z in
+    let b : Bool = eqb n 0 || not (eqb (n % 8) 0) in
+    let all = sym (alloc_as z) ∙ e in
+    let t = no_of 36 (pick (ltb n (2 ^ 32)) none (some 37)) b all in
+    let parts = or_no (eqb n 0) (not (eqb (n % 8) 0)) t in
+    let a : n ≡ 0 → ⊥ = eqb_no {a = n} {b = 0} parts.0 in
+    let m : n % 8 ≡ 0 = eqb→eq (n % 8) 0 (T_not-not (eqb (n % 8) 0) parts.1) in
+    let l = yes_of 37 none (ltb n (2 ^ 32)) (sym (pick_no b (some 36) (pick (ltb n (2 ^ 32)) none (some 37)) t) ∙ all) in
+    (omega (arith, a, m), leb→le (suc n) (2 ^ 32) l.0)
+
+pub save_said : (z : ℤ) → save_no z ≡ none → size64 z < 2 ^ 32
+unfolding save_no size64
+save_said (negsuc n) e = omega arith
+save_said (pos n) e = leb→le (suc n) (2 ^ 32) (yes_of 39 none (ltb n (2 ^ 32)) e).0
 
 frame_high : (z : ℤ) → T (frame_ok z) → size64 z ≤ 240
 unfolding frame_ok size64
@@ -161,3 +170,12 @@ unfolding register_in frame_no
 frame_said {code} {reg} {z} e h =
     let g = rw e at h in
     (g.0, frame_high z (yes_of 41 none (frame_ok z) g.1).0)
+
+-- ---- a code that is no frame code
+
+pub no_frame : (s : Seh) → ((reg : ℕ) (z : ℤ) → s ≡ Frame reg z → ⊥) → (Ok tt ≡ yes_or_no (frame_no s)) × ((b : ℕ) → b ≡ frame_or b s)
+unfolding yes_or_no frame_no frame_or
+no_frame (Push reg) n = (refl, λ b. refl)
+no_frame (Alloc z) n = (refl, λ b. refl)
+no_frame (Frame reg z) n = absurd (n reg z refl)
+no_frame (Save reg vector z) n = (refl, λ b. refl)

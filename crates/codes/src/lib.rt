@@ -1,7 +1,7 @@
 // One x64 unwind code: its questions and its bytes. Ported from rucc-asm/src/unwind.rs (nodes, large, slot) of tamnd/rucc, changed: see NOTICE.
 #![tactic(auto)]
 
-ghost use Rattle.std.specs.Prelude.{◌≡◌, [], ◌∷◌, ◌++◌, ◌+◌, ◌*◌, ◌≤◌, ◌<◌, length, take};
+ghost use Rattle.std.specs.Prelude.{◌≡◌, [], ◌∷◌, ◌++◌, ◌+◌, ◌*◌, ◌/◌, ◌^◌, ◌≤◌, ◌<◌, Some, None, leb, length, take};
 ghost use Rattle.std.proofs.Math.Option.{none, some};
 ghost use Rattle.format.specs.Prelude.{pick};
 ghost use Rattle.format.specs.Lists.{count};
@@ -23,14 +23,16 @@ fn size(z: i64) -> u64
     u64::try_from(z).unwrap_or(0)
 }
 
-fn register_in(code: Seh) -> u64
-    ensures { result ≡ register_in code }
+// The register that it names, if any, is below 16.
+#[tactic(auto, unfolding(format::specs::X64::register_in))]
+fn register_ok(code: Seh) -> bool
+    ensures { result ≡ leb (register_in code) 15 }
 {
     match code {
-        Seh::Push(reg) => reg,
-        Seh::Alloc(_) => 0,
-        Seh::Frame(reg, _) => reg,
-        Seh::Save(reg, _, _) => reg,
+        Seh::Push(reg) => reg <= 15,
+        Seh::Alloc(_) => true,
+        Seh::Frame(reg, _) => reg <= 15,
+        Seh::Save(reg, _, _) => reg <= 15,
     }
 }
 
@@ -39,10 +41,7 @@ fn alloc_no(z: i64) -> Result<(), Question>
     ensures { numbered result ≡ yes_or_no (alloc_no z) }
 {
     let n = size(z);
-    if n == 0 {
-        return Err(Question::Allocation);
-    }
-    if n % 8 != 0 {
+    if n == 0 || n % 8 != 0 {
         return Err(Question::Allocation);
     }
     if n < 4294967296 {
@@ -75,17 +74,26 @@ fn operand_no(code: Seh) -> Result<(), Question>
     }
 }
 
-// 34 to 39.
-pub fn code_no(at: u64, code: Seh) -> Result<(), Question>
-    ensures { numbered result ≡ yes_or_no (code_no (at, code)) }
-{
-    if 15 < register_in(code) {
-        return Err(Question::Registers);
+// A code, and its offset in the prologue: where its instruction ends.
+#[derive(Clone, Copy)]
+pub struct UnwindCode {
+    pub offset: u64,
+    pub code: Seh,
+}
+
+impl UnwindCode {
+    // 34 to 39.
+    pub fn code_no(self) -> Result<(), Question>
+        ensures { numbered result ≡ yes_or_no (code_no (self.offset, self.code)) }
+    {
+        if !register_ok(self.code) {
+            return Err(Question::Registers);
+        }
+        if 255 < self.offset {
+            return Err(Question::CodeOffset);
+        }
+        operand_no(self.code)
     }
-    if 255 < at {
-        return Err(Question::CodeOffset);
-    }
-    operand_no(code)
 }
 
 // 41 of a frame code's offset.
@@ -96,10 +104,7 @@ fn frame_offset_no(z: i64) -> Result<(), Question>
         return Err(Question::FrameOffset);
     }
     let n = size(z);
-    if 240 < n {
-        return Err(Question::FrameOffset);
-    }
-    if n % 16 != 0 {
+    if 240 < n || n % 16 != 0 {
         return Err(Question::FrameOffset);
     }
     Ok(())
@@ -109,12 +114,10 @@ fn frame_offset_no(z: i64) -> Result<(), Question>
 pub fn frame_no(code: Seh) -> Result<(), Question>
     ensures { numbered result ≡ yes_or_no (frame_no code) }
 {
-    match code {
-        Seh::Push(_) => Ok(()),
-        Seh::Alloc(_) => Ok(()),
-        Seh::Frame(_, z) => frame_offset_no(z),
-        Seh::Save(_, _, _) => Ok(()),
-    }
+    let Seh::Frame(_, z) = code else {
+        return Ok(());
+    };
+    frame_offset_no(z)
 }
 
 // The header's byte of the frame register after a code: b, or what a frame code says.
@@ -122,18 +125,16 @@ pub fn frame_or(b: u8, code: Seh) -> u8
     requires { (register_in code ≤ 15) × (frame_no code ≡ none) }
     ensures { result ≡ frame_or b code }
 {
-    match code {
-        Seh::Push(_) => b,
-        Seh::Alloc(_) => b,
-        Seh::Frame(reg, z) => (reg + 16 * (size(z) / 16)) as u8,
-        Seh::Save(_, _, _) => b,
-    }
+    let Seh::Frame(reg, z) = code else {
+        return b;
+    };
+    (reg + 16 * (size(z) / 16)) as u8
 }
 
 // ---- the bytes of a code
 
 // A code's bytes, the first `count` of six.
-// Kept: a project rule holds an x64 code as `[u8; 6]` by value beside its count.
+// Kept: an array by value beside its count is a form that document 01 names (docs/DECISIONS.md, "The forms that document 01 names").
 #[derive(Clone, Copy)]
 pub struct Code {
     pub bytes: [u8; 6],
@@ -141,39 +142,43 @@ pub struct Code {
 }
 
 // An operation with its info, and v behind it as a field of n bytes.
-fn form(at: u8, op: u64, info: u8, n: usize, v: u64) -> Code
+// Kept: the operation is its number, and no enum. The clauses here (`node`, `slot_bytes`) take the number, and the far form is the near one's plus 1:
+// with an enum `form` names its number by a definition, and `slot_in` takes two operations and a clause that the second follows the first.
+fn form(at: u8, op: u64, info: u8, n: usize, v: u32) -> Code
     requires { (op < 16) × (info < 16) × (n ≤ 4) }
     ensures { Holds result (node at op info ++ little n v) }
 {
-    let b = v / 256;
-    let c = b / 256;
-    let d = c / 256;
+    let b = v.to_le_bytes();
     Code {
-        bytes: [
-            at,
-            op as u8 + 16 * info,
-            (v % 256) as u8,
-            (b % 256) as u8,
-            (c % 256) as u8,
-            (d % 256) as u8,
-        ],
+        bytes: [at, op as u8 + 16 * info, b[0], b[1], b[2], b[3]],
         count: 2 + n,
     }
 }
 
+// A distance or a size in units, where 16 bits hold it.
+fn units(unit: u64, size: u64) -> Option<u16>
+    requires { 0 < unit }
+    ensures { result ≡ pick (is_near unit size) (Some (size / unit)) None }
+{
+    if size % unit != 0 {
+        return None;
+    }
+    u16::try_from(size / unit).ok()
+}
+
 // An allocation above 128 bytes.
 fn large(at: u8, size: u64) -> Code
-    requires { 128 < size }
+    requires { (128 < size) × (size < 2 ^ 32) }
     ensures { Holds result (alloc_bytes at size) }
 {
-    if size / 8 < 65536 {
-        return form(at, uwop::UWOP_ALLOC_LARGE, 0, 2, size / 8);
+    if let Ok(eights) = u16::try_from(size / 8) {
+        return form(at, uwop::UWOP_ALLOC_LARGE, 0, 2, u32::from(eights));
     }
-    form(at, uwop::UWOP_ALLOC_LARGE, 1, 4, size)
+    form(at, uwop::UWOP_ALLOC_LARGE, 1, 4, size as u32)
 }
 
 fn alloc(at: u8, size: u64) -> Code
-    requires { 8 ≤ size }
+    requires { (8 ≤ size) × (size < 2 ^ 32) }
     ensures { Holds result (alloc_bytes at size) }
 {
     if size <= 128 {
@@ -182,30 +187,20 @@ fn alloc(at: u8, size: u64) -> Code
     large(at, size)
 }
 
-// A distance that the near form of a save counts, in units.
-fn is_near(unit: u64, above: u64) -> bool
-    requires { 0 < unit }
-    ensures { result ≡ is_near unit above }
-{
-    if above % unit != 0 {
-        return false;
-    }
-    above / unit < 65536
-}
-
 // A save by its near operation, or by the far one, which is the next.
 fn slot_in(near: u64, unit: u64, at: u8, reg: u8, above: u64) -> Code
-    requires { (near < 15) × (0 < unit) × (reg < 16) }
+    requires { (near < 15) × (0 < unit) × (reg < 16) × (above < 2 ^ 32) }
     ensures { Holds result (slot_bytes near unit at reg above) }
 {
-    if is_near(unit, above) {
-        return form(at, near, reg, 2, above / unit);
+    if let Some(n) = units(unit, above) {
+        return form(at, near, reg, 2, u32::from(n));
     }
-    form(at, near + 1, reg, 4, above)
+    form(at, near + 1, reg, 4, above as u32)
 }
 
+#[tactic(auto, unfolding(format::specs::X64::save_bytes))]
 fn slot(at: u8, reg: u8, vector: bool, above: u64) -> Code
-    requires { reg < 16 }
+    requires { (reg < 16) × (above < 2 ^ 32) }
     ensures { Holds result (save_bytes vector at reg above) }
 {
     if vector {
@@ -214,28 +209,32 @@ fn slot(at: u8, reg: u8, vector: bool, above: u64) -> Code
     slot_in(uwop::UWOP_SAVE_NONVOL, 8, at, reg, above)
 }
 
-// One code, as the nodes that say it.
-pub fn nodes(at: u64, code: Seh) -> Code
-    requires { code_no (at, code) ≡ none }
-    ensures { Holds result (code_bytes at code) }
-{
-    let a = at as u8;
-    match code {
-        Seh::Push(reg) => form(a, uwop::UWOP_PUSH_NONVOL, reg as u8, 0, 0),
-        Seh::Alloc(z) => alloc(a, size(z)),
-        Seh::Frame(_, _) => form(a, uwop::UWOP_SET_FPREG, 0, 0, 0),
-        Seh::Save(reg, vector, z) => slot(a, reg as u8, vector, size(z)),
+impl UnwindCode {
+    // The nodes that say it.
+    pub fn nodes(self) -> Code
+        requires { code_no (self.offset, self.code) ≡ none }
+        ensures { Holds result (code_bytes self.offset self.code) }
+    {
+        let at = self.offset as u8;
+        match self.code {
+            Seh::Push(reg) => form(at, uwop::UWOP_PUSH_NONVOL, reg as u8, 0, 0),
+            Seh::Alloc(z) => alloc(at, size(z)),
+            Seh::Frame(_, _) => form(at, uwop::UWOP_SET_FPREG, 0, 0, 0),
+            Seh::Save(reg, vector, z) => slot(at, reg as u8, vector, size(z)),
+        }
     }
 }
 
 // How many bytes the nodes of a code have.
+// Kept: sizes beside the bytes. `nodes` asks that the code passed its questions; `nodes_size` asks nothing, and is taken of each code while they are
+// asked (D112).
 fn alloc_size(size: u64) -> usize
     ensures { result ≡ alloc_size size }
 {
     if size <= 128 {
         return 2;
     }
-    if size / 8 < 65536 {
+    if u16::try_from(size / 8).is_ok() {
         return 4;
     }
     6
@@ -245,7 +244,7 @@ fn slot_size(unit: u64, above: u64) -> usize
     requires { 0 < unit }
     ensures { result ≡ pick (is_near unit above) 4 6 }
 {
-    if is_near(unit, above) {
+    if units(unit, above).is_some() {
         return 4;
     }
     6
@@ -260,14 +259,16 @@ fn save_size(vector: bool, above: u64) -> usize
     slot_size(8, above)
 }
 
-pub fn nodes_size(at: u64, code: Seh) -> usize
-    ensures { result ≡ length (code_bytes at code) }
-{
-    match code {
-        Seh::Push(_) => 2,
-        Seh::Alloc(z) => alloc_size(size(z)),
-        Seh::Frame(_, _) => 2,
-        Seh::Save(_, vector, z) => save_size(vector, size(z)),
+impl UnwindCode {
+    pub fn nodes_size(self) -> usize
+        ensures { result ≡ length (code_bytes self.offset self.code) }
+    {
+        match self.code {
+            Seh::Push(_) => 2,
+            Seh::Alloc(z) => alloc_size(size(z)),
+            Seh::Frame(_, _) => 2,
+            Seh::Save(_, vector, z) => save_size(vector, size(z)),
+        }
     }
 }
 
@@ -288,8 +289,6 @@ pub fn head(out: &mut [u8], at: usize, end: u8, held: u8, frame: u8) -> usize
     requires { at + 4 ≤ length out.old }
     ensures { Wrote out.old out.new at result (1 ∷ end ∷ held ∷ frame ∷ []) }
 {
-    let a = leb::byte(out, at, 1);
-    let b = leb::byte(out, a, end);
-    let c = leb::byte(out, b, held);
-    leb::byte(out, c, frame)
+    out[at..at + 4].copy_from_slice(&[1, end, held, frame]);
+    at + 4
 }

@@ -3,7 +3,7 @@ pub mod Fronts
 pub mod Widths
 pub mod Bodies
 pub mod Rows
-pub mod Lines
+pub mod Lining
 pub mod AtMost
 pub mod Encodings
 pub mod Asking

@@ -3,14 +3,15 @@ use mathlib.Core.Path.{◌≡◌, refl, sym, ap, ◌∙◌}
 use Prim.Native.Nat.{ℕ, zero, suc, ◌+◌, ◌-◌, ◌^◌, ◌≤◌, ◌<◌}
 use native.Mathlib.Omega.{arith}
 use native.Mathlib.Numerals.{add-one}
-use mathlib.Core.Bool.{Bool, true, false, ◌&&◌}
+use mathlib.Core.Bool.{Bool, true, false, not, ◌&&◌}
 use mathlib.Core.List.{List}
-use borrow.Author.Tests.{le-leb, lt-leb}
+use borrow.Author.Tests.{le-leb, lt-leb, ltb-true, ltb-false}
 use lib.Dec.{T, leb, ltb}
 use Rattle.format.specs.Prelude.{all, each}
 use Rattle.format.specs.Lists.{field, row_stride, row_at, all_in, row_ok_at}
 use Rattle.format.specs.Questions.{steps_ok}
 use Rattle.format.proofs.ListLaws.{in_range}
+use Rattle.lists.proofs.Answers.{accepted, refused}
 use Rattle.header_keys.specs.Functions.{RowsReady}
 
 -- a test of each record that stands at a range of numbers
@@ -50,6 +51,13 @@ module _ {rows : List ℕ} {at n from i to : ℕ} (a : Stepping rows at n from i
 
   pub far : from ≤ to → 2 ^ 32 ≤ to - from → false ≡ steps_ok 0 (each (row_at rows) at n)
   far f g = sym (here ∙ simp (le-leb from to f, lt-leb (suc (to - from)) (2 ^ 32) (omega arith)))
+
+-- by the code's test of a step
+pub too_far : {r : Bool} {d : ℕ} → r ≡ ltb d (2 ^ 32) → not r ≡ true → 2 ^ 32 ≤ d
+too_far {r} {d} e t = ltb-false d (2 ^ 32) (refused e t)
+
+pub near_enough : {r : Bool} {d : ℕ} → r ≡ ltb d (2 ^ 32) → not r ≡ false → d < 2 ^ 32
+near_enough {r} {d} e t = ltb-true d (2 ^ 32) (accepted e t)
 
 pub ended : {rows : List ℕ} {at n from i : ℕ} → Stepping rows at n from i → at + n ≤ i → true ≡ steps_ok 0 (each (row_at rows) at n)
 unfolding steps_ok each

@@ -1,5 +1,5 @@
 -- The sizing pass, function by function.
-use mathlib.Core.Path.{◌≡◌, refl, ◌∙◌}
+use mathlib.Core.Path.{◌≡◌, refl, ap, ◌∙◌}
 use Prim.Native.Nat.{ℕ, ◌+◌, ◌≤◌, ◌<◌}
 use native.Mathlib.Omega.{arith}
 use native.Mathlib.Numerals.{add-one}
@@ -87,6 +87,10 @@ pub record Sizing (x : Inputs) (n k : ℕ) (t : Table) : Type 0 where
   pub counted : n ≡ count_in x
   pub high : k ≤ n
   pub behind : t ≡ totals_in (parts_to x k)
+
+-- a table whose numbers are 0 is empty
+pub is_nothing : {t : Table} → (t.bytes ≡ 0) × ((t.relocations ≡ 0) × (t.sites ≡ 0)) → t ≡ nothing
+is_nothing (b, (r, s)) = ap (λ (n : ℕ × ℕ × ℕ). record { bytes = n.0; relocations = n.1; sites = n.2 }) (rw (b, r, s) refl)
 
 pub start : (x : Inputs) → Sizing x (count_in x) 0 nothing
 unfolding totals_in parts_to bytes_in relocs_in sites_in joined numbers_of

@@ -3,7 +3,7 @@
 
 ghost use Rattle.std.specs.Prelude.{◌≡◌, ℕ, ◌+◌, ◌*◌, ◌^◌, ◌≤◌, ◌<◌, true, not, [], T, ltb, eqb, length, get_or};
 ghost use Rattle.format.specs.Prelude.{all, each};
-ghost use Rattle.format.specs.Lists.{field, function_stride, pair_stride, sum_of, most_functions, most_records, pair_at};
+ghost use Rattle.format.specs.Lists.{field, function_stride, pair_stride, sum_of, most_functions, most_records, pair_at, row_at};
 ghost use Rattle.format.specs.Questions.{size_bytes, encodings_ok, steps_ok, pairs_ok, dwarf_asks, per_function, fitting, dwarf_given, given_of, room_in};
 ghost use Rattle.format.specs.Writer.{is_debug, align_for};
 ghost use Rattle.format.specs.Answers.{Writes};
@@ -13,12 +13,15 @@ ghost use Rattle.lists.specs.Extents.{meant};
 ghost use Rattle.lists.specs.Parts.{sums_ok};
 ghost use Rattle.lists.specs.Room.{room_for};
 ghost use Rattle.lists.specs.Lent.{SameLists, room_of, WritesTo};
-ghost use Rattle.header_keys.specs.Functions.{body_of, Sound, PairsReady, LabelsReady};
-ghost use Rattle.header_keys.specs.Inputs.{inputs_of, count_in, extent_in, RowsIn, rows_of};
-ghost use Rattle.dwarf.specs.Asks.{Askable, AllAskable, whole_in, asked_in, lines_asks, listed_answer};
+ghost use Rattle.header_keys.specs.Functions.{body_of, RowsReady, Sound, PairsReady, LabelsReady};
+ghost use Rattle.header_keys.specs.Inputs.{inputs_of, count_in, extent_in, RowsIn};
+ghost use Rattle.dwarf.specs.Asks.{Askable, AllAskable, asked_in, lines_asks, listed_answer};
 ghost use Rattle.dwarf.specs.Parts.{parts_to, section_in};
 ghost use Rattle.dwarf.specs.Writable.{Writable, Cleared, Next};
 ghost use Rattle.dwarf.specs.OneProof.{Cleared-prop, Owned-prop};
+ghost use Rattle.format.specs.Machine.{is_word_size};
+ghost use Rattle.header_keys.specs.OneProof.{RowsReady-prop};
+ghost use Rattle.format.specs.Rows.{row_whole};
 ghost use Rattle.dwarf.specs.Tables.{totals_in, grown_by, Small, labelled_rows, most_in, Few, counts_of};
 ghost use Rattle.owners.specs.Owners.{owner};
 ghost use Rattle.owners.specs.Chains.{Owned};
@@ -28,12 +31,12 @@ ghost use Rattle.dwarf.specs.Lent.{HasRoom, ReadyFor, AddsTo, FillsTo};
 ghost use Rattle.records.specs.Written as record_parts;
 ghost use Rattle.dwarf.specs.Functions.{WrittenAs, front_end, part_for, CanSize, FrontFits, FrontWritten, PieceFits, PieceWritten};
 
-use format::{Counts, Machine, Question, Refusal, Section};
+use format::{Counts, Question, Refusal, Section};
 use header_keys::written::{Function, Run};
 use header_keys::{Input, Kind, kind_of};
 use headers::{header, header_relocs, header_relocs_count, header_size, padding};
 use lists::output::Output;
-use lists::{Extent, Labels, Lists, MOST_FUNCTIONS, machine_of, machine_ok, sums_ok};
+use lists::{Extent, Labels, Lists, MOST_FUNCTIONS, read_machine, sums_ok};
 use numbers::pointer_size;
 use owners::Chains;
 use records::{
@@ -41,7 +44,7 @@ use records::{
     surveyed_rows,
 };
 use rows::row_numbers::RowNumbers;
-use rows::{offset_at, row_at, row_whole};
+use rows::{offset_at, row_at, row_whole, step_ok};
 
 // ---- questions 21 to 25
 
@@ -74,60 +77,90 @@ fn encodings_ok(x: &Input, e: &Extent) -> bool
     }
 }
 
-// Question 23: no row goes back, nor steps above 2^32 - 1.
-fn steps_ok(x: &Input, e: &Extent) -> bool
-    requires { RowsIn (inputs_of x.now) e.now }
-    ensures { result ≡ steps_ok 0 (rows_of (inputs_of x.now) e.now) }
-{
-    let mut from = 0;
-    for i in e.rows_at..e.rows_at + e.rows {
-        let to = offset_at(x.lists.rows, i);
-        if to < from {
-            return false;
-        }
-        if rows::STEPS <= to - from {
-            return false;
-        }
-        from = to;
-    }
-    true
+// A function's rows, which can be read, and the word that they are asked for.
+// Kept: beside `header_keys::written::Run`, which rows are written from: question 24 needs that the word is the size of a word, which a
+// `Run` does not know. Around a `Run` each clause below would name the rows, the place and the count as parts of a part.
+#[derive(Clone, Copy)]
+struct Lines<'a> {
+    word: u64,
+    rows: &'a [u64],
+    at: usize,
+    n: usize,
+    ghost is_word: { T (is_word_size word) },
+    ghost ready: { RowsReady rows.now at n } by { RowsReady-prop rows.now at n },
 }
 
-// Question 24: each offset that is written factored is a multiple of the word.
-fn rows_whole(x: &Input, e: &Extent) -> bool
-    requires { RowsIn (inputs_of x.now) e.now }
-    ensures { result ≡ whole_in (inputs_of x.now) e.now }
-{
-    for i in e.rows_at..e.rows_at + e.rows {
-        if !row_whole(x.machine.word, row_at(x.lists.rows, i)) {
-            return false;
+// Kept: three passes ask questions 23 and 24. `fine` asks both at once, for more than they do, and is what most functions need; where it says no, the
+// two plain ones tell which question it is (D107 of docs/DECISIONS.md).
+impl Lines<'_> {
+    // Question 23: no row goes back, nor steps above 2^32 - 1.
+    // Kept: a loop, and no `all`: each row is set beside the one in front of it and the first one beside 0, so that `all` over the places
+    // would have a case of its own for the first one, and would read each offset twice.
+    fn steps_ok(&self) -> bool
+        ensures { result ≡ steps_ok 0 (each (row_at self.now.rows.now) self.now.at self.now.n) }
+    {
+        let mut from = 0;
+        for i in self.at..self.at + self.n {
+            let to = offset_at(self.rows, i);
+            if to < from {
+                return false;
+            }
+            if !step_ok(to - from) {
+                return false;
+            }
+            from = to;
         }
+        true
     }
-    true
+
+    // Row i's offset, where it is written factored, is a multiple of the word.
+    fn row_whole(&self, i: usize) -> bool
+        requires { (self.now.at ≤ i) × (i < self.now.at + self.now.n) }
+        ensures { result ≡ row_whole self.now.word (row_at self.now.rows.now i).1 }
+    {
+        row_whole(self.word, row_at(self.rows, i))
+    }
+
+    // Question 24: each offset that is written factored is a multiple of the word.
+    fn whole(&self) -> bool
+        ensures { result ≡ all (λ r. row_whole self.now.word r.1) (each (row_at self.now.rows.now) self.now.at self.now.n) }
+    {
+        (self.at..self.at + self.n).all(|i| self.row_whole(i))
+    }
+
+    // Questions 23 and 24 in one pass, asked for more. A no says nothing. With the word in a local the compiler tests it once.
+    // Kept: `from` by hand. An iterator would hand out the place of a row and the offset in front of it: a struct, its `next` and its laws
+    // for one line in this loop.
+    fn fine(&self) -> bool
+        ensures { result ≡ true → (steps_ok 0 (each (row_at self.now.rows.now) self.now.at self.now.n) ≡ true) × (all (λ r. row_whole self.now.word r.1) (each (row_at self.now.rows.now) self.now.at self.now.n) ≡ true) }
+    {
+        let word = self.word;
+        let mut from = 0;
+        for i in self.at..self.at + self.n {
+            let to = offset_at(self.rows, i);
+            if to < from {
+                return false;
+            }
+            if !step_ok(to - from) {
+                return false;
+            }
+            if !RowNumbers::at(self.rows, i).surely_whole(word) {
+                return false;
+            }
+            from = to;
+        }
+        true
+    }
 }
 
-// Questions 23 and 24 in one pass, asked for more. A no says nothing. With the word in a local the compiler tests it once.
-fn lines_fine(x: &Input, e: &Extent) -> bool
-    requires { RowsIn (inputs_of x.now) e.now }
-    ensures { result ≡ true → (steps_ok 0 (rows_of (inputs_of x.now) e.now) ≡ true) × (whole_in (inputs_of x.now) e.now ≡ true) }
+// Function k is refused by a question.
+fn function_refused(question: Question, k: usize) -> Refusal
+    ensures { result ≡ record { question = question; position = k } }
 {
-    let word = x.machine.word;
-    let rows = x.lists.rows;
-    let mut from = 0;
-    for i in e.rows_at..e.rows_at + e.rows {
-        let to = offset_at(rows, i);
-        if to < from {
-            return false;
-        }
-        if rows::STEPS <= to - from {
-            return false;
-        }
-        if !RowNumbers::at(rows, i).surely_whole(word) {
-            return false;
-        }
-        from = to;
+    Refusal {
+        question,
+        position: k as u64,
     }
-    true
 }
 
 // Questions 23 and 24 of function k.
@@ -135,20 +168,20 @@ fn lines_ask(x: &Input, k: usize, e: &Extent) -> Result<(), Refusal>
     requires { RowsIn (inputs_of x.now) e.now }
     ensures { numbered_at result ≡ question_of (lines_asks (inputs_of x.now) k e.now) }
 {
-    if lines_fine(x, e) {
+    let lines = Lines {
+        word: x.machine.word,
+        rows: x.lists.rows,
+        at: e.rows_at,
+        n: e.rows,
+    };
+    if lines.fine() {
         return Ok(());
     }
-    if !steps_ok(x, e) {
-        return Err(Refusal {
-            question: Question::Order,
-            position: k as u64,
-        });
+    if !lines.steps_ok() {
+        return Err(function_refused(Question::Order, k));
     }
-    if !rows_whole(x, e) {
-        return Err(Refusal {
-            question: Question::Multiples,
-            position: k as u64,
-        });
+    if !lines.whole() {
+        return Err(function_refused(Question::Multiples, k));
     }
     Ok(())
 }
@@ -186,23 +219,14 @@ fn dwarf_asks(x: &Input, k: usize, e: &Extent) -> Result<(), Refusal>
     ensures { numbered_at result ≡ question_of (dwarf_asks x.now.section x.now.machine.word k (meant e.now x.now.lists.rows.now [] x.now.lists.pairs.now)) }
 {
     if !size_ok(x, e) {
-        return Err(Refusal {
-            question: Question::Length,
-            position: k as u64,
-        });
+        return Err(function_refused(Question::Length, k));
     }
     if !encodings_ok(x, e) {
-        return Err(Refusal {
-            question: Question::Encodings,
-            position: k as u64,
-        });
+        return Err(function_refused(Question::Encodings, k));
     }
     lines_ask(x, k, e)?;
     if !pairs_ok(x, e) {
-        return Err(Refusal {
-            question: Question::Pairs,
-            position: k as u64,
-        });
+        return Err(function_refused(Question::Pairs, k));
     }
     Ok(())
 }
@@ -223,21 +247,16 @@ fn all_asks(x: &Input) -> Result<(), Refusal>
 // ---- the sizing pass
 
 // What stands in the lent lists of bytes, relocations and call sites by now, in their elements.
-#[derive(Clone, Copy)]
+// Kept: beside format::Counts. These are places in the lent lists, so of usize, and the relocations count numbers and not relocations; and
+// of header places there is one for each function, so that no pass carries their count.
+#[derive(Clone, Copy, Default)]
 pub struct Table {
     pub bytes: usize,
     pub relocations: usize,
     pub sites: usize,
 }
 
-impl Table {
-    const NOTHING: Table = Table {
-        bytes: 0,
-        relocations: 0,
-        sites: 0,
-    };
-}
-
+// Kept: a `bool`, here and in what is written of a function: the definitions of an entry's bytes take a Bool, and not the section.
 #[tactic(auto, unfolding(format::specs::Writer::is_debug))]
 fn is_debug(s: Section) -> bool
     ensures { result ≡ is_debug s }
@@ -472,7 +491,7 @@ impl Entries<'_> {
         ensures { result ≡ totals_in (parts_to (inputs_of self.now.input.now) (count_in (inputs_of self.now.input.now))) }
     {
         let n = self.input.lists.count();
-        let mut t = Table::NOTHING;
+        let mut t = Table::default();
         for k in 0..n {
             let size = rows_size(self.input, k);
             let o = usize::from(self.owners[k]);
@@ -504,7 +523,7 @@ impl Entries<'_> {
         ensures { FillsTo (inputs_of self.now.input.now) (count_in (inputs_of self.now.input.now)) result to.old to.new }
     {
         let functions = self.input.lists.count();
-        let mut t = Table::NOTHING;
+        let mut t = Table::default();
         for k in 0..functions {
             t = self.part(k, functions, t, to);
         }
@@ -603,7 +622,7 @@ impl Counted<'_> {
         ensures { AllSurveyed (inputs_of self.now.input.now) chains.new.owners.now result × LongFor (count_in (inputs_of self.now.input.now)) chains.new }
     {
         let n = self.input.lists.count();
-        let mut t = Table::NOTHING;
+        let mut t = Table::default();
         for k in 0..n {
             let size = self.function_surveyed(k)?;
             owners::find_owner(self.input, k, chains);
@@ -632,10 +651,7 @@ impl Counted<'_> {
     {
         let n = self.input.lists.count();
         if !self.input.lists.functions_ok(n) {
-            return Err(Refusal {
-                question: Question::Lists,
-                position: 0,
-            });
+            return Err(Question::Lists.into());
         }
         all_asks(self.input)?;
         fitted(self.input, chains, to)
@@ -709,21 +725,13 @@ pub fn dwarf(
 ) -> Result<Option<Counts>, Refusal>
     ensures { Writes (dwarf_given s (given_of machine.now functions.now rows.now landings.now pairs.now) (room_in places.old bytes.old relocations.old sites.old)) (numbered_at result) places.old places.new bytes.old bytes.new relocations.old relocations.new sites.old sites.new }
 {
-    if !machine_ok(machine) {
-        return Err(Refusal {
-            question: Question::Interface,
-            position: 0,
-        });
-    }
+    let m = read_machine(machine)?;
     if !sums_ok(functions) {
-        return Err(Refusal {
-            question: Question::Lists,
-            position: 0,
-        });
+        return Err(Question::Lists.into());
     }
     let x = Input {
         section: s,
-        machine: machine_of(machine),
+        machine: m,
         lists: Lists {
             functions,
             rows,

@@ -3,9 +3,8 @@ use mathlib.Core.Path.{◌≡◌, refl}
 use Prim.Native.Nat.{ℕ}
 use native.Mathlib.Omega.{arith}
 use mathlib.Core.Option.{Option, none, some}
-use Rattle.std.specs.Prelude.{Some, None, Ok, Err, is_err}
+use Rattle.std.specs.Prelude.{Some, None, Ok, Err}
 use Rattle.std.specs.Prelude as code
-use mathlib.Core.Bool.{false}
 use Rattle.format.specs.Questions.{is_some}
 
 -- a value, where there is one, as the code has it
@@ -33,9 +32,14 @@ unfolding question_of
 said_no none e = let z : ◌≡◌ {A = ℕ} 0 1 = cc in absurd (omega arith)
 said_no (some x) e = cc
 
-pub no_error : (q : Asked) → is_err q ≡ false → q ≡ Ok tt
-no_error (Ok u) e = refl
-no_error (Err r) e = let z : ◌≡◌ {A = ℕ} 0 1 = cc in absurd (omega arith)
+-- which value of the definitions the code's is
+pub none_is : {A : Type 0} (o : Option A) → option_of o ≡ None → o ≡ none
+none_is none e = refl
+none_is (some a) e = absurd cc
+
+pub value_is : {A : Type 0} (o : Option A) {a : A} → option_of o ≡ Some a → o ≡ some a
+value_is none e = absurd cc
+value_is (some b) e = cc
 
 pub some_is : (o : Option ℕ) → code.is_some (option_of o) ≡ is_some o
 unfolding is_some

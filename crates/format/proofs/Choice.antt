@@ -19,6 +19,12 @@ unfolding pick
 pick_no true x y t = absurd t
 pick_no false x y t = refl
 
+-- what holds of both holds of the one that is picked
+pub picked : {X : Type 0} (P : X → Type 0) (b : Bool) {x y : X} → P x → P y → P (pick b x y)
+unfolding pick
+picked P true h k = h
+picked P false h k = k
+
 -- `ltb a b` is `leb (suc a) b`, so these serve it too
 pub if-le {ℓ} : {X : Type ℓ} (a b : ℕ) (x y : X) → a ≤ b → pick (leb a b) x y ≡ x
 if-le a b x y h = pick_yes _ x y (yes_leb h)

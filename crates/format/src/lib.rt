@@ -11,6 +11,7 @@ pub mod question;
 
 // A machine as the tables see it: the pointer width in bytes, the bytes that a call pushes, DWARF's numbers of the stack
 // pointer, the return address and the frame pointer (65,536: none), and what register of the machine a DWARF number is.
+// Kept: 65,536 and 255 for none, as document 01 and the list of a machine have them; prologue compares a register of a row with `frame` without a case.
 #[derive(Clone, Copy)]
 pub struct Machine {
     pub word: u64,
@@ -39,6 +40,8 @@ impl Machine {
     };
 
     // A machine of the given numbers. Whether it is one is question 11, asked where it is used.
+    // Kept: beside the struct's public fields, and `x86_64` beside `X86_64`: a constructor and a ready machine are asked for (document 01), and a
+    // constant has no contract.
     pub fn new(word: u64, pushed: u64, stack: u64, ret: u64, frame: u64, map: [u8; 64]) -> Machine
         ensures { result ≡ machine_with word pushed stack ret frame map }
     {
@@ -89,7 +92,7 @@ pub enum Seh {
 
 // The rule of the canonical frame address (CFA): none, or a register plus an offset.
 // Kept: an enum, and no Option of a pair: that makes one of the three functions which take it apart shorter (reader's `register_rule`, an `ok_or`),
-// leaves those of unwind and walk as they are, and puts a None for `Unset` in 14 lines of the definitions.
+// leaves those of unwind and walk as they are, and writes None for `Unset` in ten lines of the definitions, and a Some of a pair for `Register` in ten more.
 #[derive(Clone, Copy, Default)]
 pub enum CfaRule {
     #[default]
@@ -138,6 +141,18 @@ pub enum Operation {
 pub struct Refusal {
     pub question: Question,
     pub position: u64,
+}
+
+// A question that is asked of no function: its position is 0.
+impl From<Question> for Refusal {
+    ghost from_gives = { λ q r. r ≡ record { question = q; position = 0 } };
+
+    fn from(question: Question) -> Refusal {
+        Refusal {
+            question,
+            position: 0,
+        }
+    }
 }
 
 // Elements of header places (or markers), bytes, relocations (of five numbers), bytes of call sites (or x64 info).

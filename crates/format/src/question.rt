@@ -2,101 +2,101 @@
 ghost use Rattle.std.specs.Prelude.{◌≡◌};
 ghost use Rattle.format.specs.Numbers.{number_of};
 
-// A question that was answered by no.
+// A question that was answered by no, with its number.
 #[derive(Clone, Copy, PartialEq, Eq)]
 pub enum Question {
     // the interface: machine, format, kind or word
-    Interface,
+    Interface = 11,
     // x64, walk: word is 8
-    X64Word,
+    X64Word = 12,
     // counts, ranges, symbols, and numbers that their fields hold
-    Lists,
+    Lists = 13,
     // a length fits its field
-    Length,
+    Length = 21,
     // encodings
-    Encodings,
+    Encodings = 22,
     // no row goes back or steps above 2^32 - 1
-    Order,
+    Order = 23,
     // offsets are multiples of the word
-    Multiples,
+    Multiples = 24,
     // a pair's places differ
-    Pairs,
+    Pairs = 25,
     // the frame pointer is set after the frame is taken
-    FrameFirst,
+    FrameFirst = 31,
     // the frame is not counted from a scratch register
-    Scratch,
+    Scratch = 32,
     // a group can be read
-    Group,
+    Group = 33,
     // registers below 16
-    Registers,
+    Registers = 34,
     // offsets to 255
-    CodeOffset,
+    CodeOffset = 35,
     // an allocation is positive and a multiple of 8
-    Allocation,
+    Allocation = 36,
     // and below 2^32
-    AllocationSize,
+    AllocationSize = 37,
     // a save is not below the frame
-    SaveBelow,
+    SaveBelow = 38,
     // and below 2^32
-    SaveSize,
+    SaveSize = 39,
     // slots to 255
-    Slots,
+    Slots = 40,
     // a frame offset of 0 to 240, a multiple of 16
-    FrameOffset,
+    FrameOffset = 41,
     // places or markers fit
-    PlacesRoom,
+    PlacesRoom = 51,
     // bytes fit
-    BytesRoom,
+    BytesRoom = 52,
     // relocations fit
-    RelocationsRoom,
+    RelocationsRoom = 53,
     // call sites, Windows info or a lent list fit
-    OtherRoom,
+    OtherRoom = 54,
     // lengths tile the section
-    Tiling,
+    Tiling = 61,
     // there is a record k
-    Record,
+    Record = 62,
     // its header
-    Header,
+    Header = 63,
     // the fields of both
-    Fields,
+    Fields = 64,
     // the offset is below the length
-    Offset,
+    Offset = 65,
     // operations
-    Operations,
+    Operations = 66,
     // a state to restore, no Restore in a header
-    States,
+    States = 67,
     // at most 16 states stored
-    StatesRoom,
+    StatesRoom = 68,
     // a CFA rule to change
-    FrameRule,
+    FrameRule = 69,
     // a table of call sites
-    CallSiteTable,
+    CallSiteTable = 71,
     // its entries
-    CallSites,
+    CallSites = 72,
     // a recorded fault
-    Recorded,
+    Recorded = 73,
     // stack words and sums of addresses
-    Stack,
+    Stack = 74,
     // needed registers, and a CFA rule of each frame
-    Reached,
+    Reached = 75,
     // a Windows record's header
-    X64Header,
+    X64Header = 76,
     // a Windows record's codes
-    X64Codes,
+    X64Codes = 77,
     // eh_frame of a format that is written
-    MachO,
+    MachO = 78,
     // relocations
-    Relocations,
+    Relocations = 79,
     // the distance of a Set and Sub pair
-    Distance,
+    Distance = 80,
     // whole instructions
-    Arm64Length,
+    Arm64Length = 81,
     // where epilogues start
-    Arm64Epilogues,
+    Arm64Epilogues = 82,
     // what a code can name, and counts
-    Arm64Values,
+    Arm64Values = 83,
     // the reader answers at every offset
-    EveryOffset,
+    EveryOffset = 84,
 }
 
 impl Question {
@@ -104,54 +104,7 @@ impl Question {
     pub fn number(self) -> u64
         ensures { result ≡ number_of self }
     {
-        match self {
-            Question::Interface => 11,
-            Question::X64Word => 12,
-            Question::Lists => 13,
-            Question::Length => 21,
-            Question::Encodings => 22,
-            Question::Order => 23,
-            Question::Multiples => 24,
-            Question::Pairs => 25,
-            Question::FrameFirst => 31,
-            Question::Scratch => 32,
-            Question::Group => 33,
-            Question::Registers => 34,
-            Question::CodeOffset => 35,
-            Question::Allocation => 36,
-            Question::AllocationSize => 37,
-            Question::SaveBelow => 38,
-            Question::SaveSize => 39,
-            Question::Slots => 40,
-            Question::FrameOffset => 41,
-            Question::PlacesRoom => 51,
-            Question::BytesRoom => 52,
-            Question::RelocationsRoom => 53,
-            Question::OtherRoom => 54,
-            Question::Tiling => 61,
-            Question::Record => 62,
-            Question::Header => 63,
-            Question::Fields => 64,
-            Question::Offset => 65,
-            Question::Operations => 66,
-            Question::States => 67,
-            Question::StatesRoom => 68,
-            Question::FrameRule => 69,
-            Question::CallSiteTable => 71,
-            Question::CallSites => 72,
-            Question::Recorded => 73,
-            Question::Stack => 74,
-            Question::Reached => 75,
-            Question::X64Header => 76,
-            Question::X64Codes => 77,
-            Question::MachO => 78,
-            Question::Relocations => 79,
-            Question::Distance => 80,
-            Question::Arm64Length => 81,
-            Question::Arm64Epilogues => 82,
-            Question::Arm64Values => 83,
-            Question::EveryOffset => 84,
-        }
+        self as u64
     }
 }
 

@@ -1,9 +1,8 @@
--- How many rows lead, counted by a loop that stops at the first that does not.
-use mathlib.Core.Path.{◌≡◌, refl, sym, ap, ◌∙◌}
-use Prim.Native.Nat.{ℕ, suc, ◌+◌, ◌-◌, ◌≤◌, ◌<◌}
+-- How many rows lead: those in front of the first that does not.
+use mathlib.Core.Path.{◌≡◌, refl, sym, ◌∙◌}
+use Prim.Native.Nat.{ℕ, zero, suc, ◌+◌, ◌≤◌, ◌<◌}
 use native.Mathlib.Omega.{arith}
-use mathlib.Core.Bool.{Bool, true, false, not}
-use mathlib.Core.List.{◌∷◌}
+use mathlib.Core.Bool.{Bool, true, false}
 use lib.Dec.{eqb}
 use mir.Facts.{eqb_yes}
 use borrow.Author.Tests.{ne_eqb}
@@ -14,7 +13,7 @@ use Rattle.format.specs.Rows.{RowAt, kind_of}
 use Rattle.format.proofs.Choice.{tested}
 use Rattle.format.specs.Lists.{row_of}
 use Rattle.format.specs.Headers.{leads, ahead}
-use Rattle.lists.proofs.Answers.{accepted, refused}
+use Rattle.std.specs.Prelude.{Option, Some, None, MatchOption, unwrap_or}
 
 -- a row that is no RememberState
 Other : Row → Type 0
@@ -44,41 +43,28 @@ remembers kind reg off =
     (one_other (eqb kind 9) _ _ refl (one_other (eqb kind 10) _ _ refl refl)))))))))
     ∙ sym e)
 
--- at row i of the n from `at` on, all before it lead
-pub record Counting (f : ℕ → RowAt) (at n i : ℕ) : Type 0 where
-  pub high : i ≤ n
-  pub rest : length (ahead (each f at n)) ≡ i + length (ahead (each f (at + i) (n - i)))
+-- the first row that `find` found not to lead, or none
+leading_run : (f : ℕ → RowAt) (at n i : ℕ) → i ≤ n → ((k : ℕ) → k < i → leads (f (at + k)) ≡ true) → (i < n → leads (f (at + i)) ≡ false)
+    → i ≡ length (ahead (each f at n))
+unfolding each ahead pick
+leading_run f at zero zero l h s = refl
+leading_run f at zero (suc i) l h s = absurd (omega arith)
+leading_run f at (suc n) zero l h s =
+    let z : at + 0 ≡ at = omega arith in
+    let t : leads (f at) ≡ false = rw z at (s (omega arith)) in
+    simp t
+leading_run f at (suc n) (suc i) l h s =
+    let z : at + 0 ≡ at = omega arith in
+    let t : leads (f at) ≡ true = rw z at (h 0 (omega arith)) in
+    let r : i ≡ length (ahead (each f (suc at) n)) =
+    leading_run f (suc at) n i (omega arith)
+    (λ k m. let y : at + suc k ≡ suc at + k = omega arith in rw y at (h (suc k) (omega arith)))
+    (λ m. let y : at + suc i ≡ suc at + i = omega arith in rw y at (s (omega arith))) in
+    simp t (omega arith)
 
-pub start : (f : ℕ → RowAt) (at n : ℕ) → Counting f at n 0
-start f at n =
-    let e : n ≡ n - 0 = omega arith in
-    let a : at ≡ at + 0 = omega arith in
-    record { high = omega arith; rest = ap (λ k. length (ahead (each f at k))) e ∙ ap (λ k. length (ahead (each f k (n - 0)))) a ∙ (omega arith) }
-
-module _ {f : ℕ → RowAt} {at n i : ℕ} (l : Counting f at n i) where
-  module _ {r : Bool} (h : i < n) (e : r ≡ leads (f (at + i))) where
-    here : each f (at + i) (n - i) ≡ f (at + i) ∷ each f (at + (i + 1)) (n - (i + 1))
-    unfolding each
-    here =
-        let m : n - i ≡ suc (n - (i + 1)) = omega arith in
-        let a : suc (at + i) ≡ at + (i + 1) = omega arith in
-        simp (m, a)
-
-    pub turn : not r ≡ false → Counting f at n (i + 1)
-    unfolding ahead pick
-    turn t =
-        let x : length (ahead (each f (at + i) (n - i))) ≡ suc (length (ahead (each f (at + (i + 1)) (n - (i + 1))))) = simp (here, accepted e t) in
-        record { high = omega arith; rest = omega (arith, l.rest) }
-
-    pub stopped : not r ≡ true → (i ≡ length (ahead (each f at n))) × (i ≤ n)
-    unfolding ahead pick
-    stopped t =
-        let x : length (ahead (each f (at + i) (n - i))) ≡ 0 = simp (here, refused e t) in
-        (omega (arith, l.rest), omega arith)
-
-  pub ended : n ≤ i → (n ≡ length (ahead (each f at n))) × (n ≤ n)
-  unfolding each ahead
-  ended h =
-      let e : n - i ≡ 0 = omega arith in
-      let x : length (ahead (each f (at + i) (n - i))) ≡ 0 = simp e in
-      (omega (arith, l.rest, l.high), omega arith)
+pub counted : (f : ℕ → RowAt) (at n : ℕ) (r : Option ℕ)
+    → MatchOption r ((k : ℕ) → 0 ≤ k → k < n → leads (f (at + k)) ≡ true)
+    (λ i. (0 ≤ i) × (i < n) × (leads (f (at + i)) ≡ false) × ((k : ℕ) → 0 ≤ k → k < i → leads (f (at + k)) ≡ true))
+    → (unwrap_or r n ≡ length (ahead (each f at n))) × (unwrap_or r n ≤ n)
+counted f at n None h = (leading_run f at n n (omega arith) (λ k m. h k (omega arith) m) (λ m. absurd (omega arith)), omega arith)
+counted f at n (Some i) h = (leading_run f at n i (omega (arith, h.1)) (λ k m. h.3 k (omega arith) m) (λ m. h.2), omega (arith, h.1))

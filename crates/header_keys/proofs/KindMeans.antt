@@ -12,13 +12,13 @@ use Rattle.std.specs.Prelude.{Some, None}
 use Rattle.format.specs.Prelude.{pick, each}
 use Rattle.format.specs.declared.Machine.{Machine}
 use Rattle.format.specs.Lists.{Landing, Named, landing_at}
-use Rattle.format.specs.Headers.{Kind, plain, personal, named, key_of, encoding_of, named_kind, kind_for}
+use Rattle.format.specs.Headers.{Kind, personal, named, key_of, encoding_of, named_kind, kind_for}
 use Rattle.lists.specs.declared.Lsda.{Lsda}
 use Rattle.lists.specs.declared.Personality.{Personality}
 use Rattle.lists.specs.declared.Extent.{Extent}
 use Rattle.lists.specs.Extents.{meant_lsda, meant_personality, meant}
 use Rattle.header_keys.specs.Functions.{key_in}
-use Rattle.header_keys.specs.Kinds.{lsda_of, named_by, kind_meant, by_personality, asked_kind, kind_in}
+use Rattle.header_keys.specs.Kinds.{lsda_of, kind_meant, by_personality, asked_kind, kind_in}
 use Rattle.header_keys.specs.declared.Kind as declared
 use Rattle.header_keys.specs.declared.Kind.TheVariants as variants
 
@@ -48,20 +48,6 @@ kind_means m e rows =
     by_landings (landing_at []) e.landings_at e.landings _
     ∙ (ap (λ (k : Kind). pick (eqb e.landings 0) k personal) (by_name e.personality) ∙ picked (eqb e.landings 0) (by_personality e.personality))
 
--- ---- by the code's answer
-
-module _ (e : Extent) {k : declared.Kind} (a : k ≡ asked_kind e) where
-  pub decides : {v : declared.Kind} → k ≡ v → asked_kind e ≡ v
-  decides q = sym a ∙ q
-
-  pub decides_plain : k ≡ variants.Plain → kind_in e ≡ plain
-  unfolding kind_meant
-  decides_plain q = ap kind_meant (decides q)
-
-  pub decides_personal : k ≡ variants.Personal → kind_in e ≡ personal
-  unfolding kind_meant
-  decides_personal q = ap kind_meant (decides q)
-
-  pub decides_named : {p : Personality} → k ≡ variants.Named p → kind_in e ≡ named_by p
-  unfolding kind_meant
-  decides_named q = ap kind_meant (decides q)
+-- by the code's answer
+pub decides : (e : Extent) {k : declared.Kind} → k ≡ asked_kind e → {v : declared.Kind} → k ≡ v → asked_kind e ≡ v
+decides e a q = sym a ∙ q

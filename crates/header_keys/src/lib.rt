@@ -42,7 +42,7 @@ pub enum Kind {
 }
 
 // The kind of header that a function asks for. Landings beat a named personality.
-// Kept: a name of its own and no `From`: it is an answer about a record, and not the record in another form.
+// Kept: no `From`. This is public and stays, so that `Kind::from` would be a second name for it: an impl and a ghost `from_gives` around a call.
 #[tactic(auto, unfolding(crate::specs::Kinds::asked_kind, crate::specs::Kinds::by_personality, format::specs::Prelude::pick))]
 pub fn kind_of(e: &Extent) -> Kind
     ensures { result ≡ asked_kind e.now }
@@ -70,16 +70,15 @@ fn leads_at(rows: &[u64], i: usize) -> bool
 }
 
 // How many of a function's rows lead.
+// Kept: here and in the two of leading rows below, that the rows can be read is asked, and no struct holds it: `owners` has the record
+// alone, and `written::Function` knows of all questions (D124 of docs/DECISIONS.md).
 pub fn ahead(e: &Extent, rows: &[u64]) -> usize
     requires { RowsReady rows.now e.now.rows_at e.now.rows }
     ensures { (result ≡ length (ahead (each (row_at rows.now) e.now.rows_at e.now.rows))) × (result ≤ e.now.rows) }
 {
-    for i in 0..e.rows {
-        if !leads_at(rows, e.rows_at + i) {
-            return i;
-        }
-    }
-    e.rows
+    (0..e.rows)
+        .find(|i| !leads_at(rows, e.rows_at + *i))
+        .unwrap_or(e.rows)
 }
 
 // How many rows a call implies: none where the function is simple, and the second only where the call pushes bytes.
@@ -107,6 +106,10 @@ fn implied_at(m: &Machine, i: usize) -> Row
     }
     Row::Offset(m.ret as u16, 0 - pushed)
 }
+
+// Kept: the leading rows by their count and place, and no iterator. It would be a struct of the machine, the record, the list and a place, with
+// its `next` and laws of what it yields, for a line in each of four loops: `starts` and `starts_size` of headers, `digest` of owners, and
+// `choose` there, which sets row i of one function beside row i of another and would need two of them.
 
 // How many leading rows a function has.
 pub fn leading_count(m: &Machine, e: &Extent, rows: &[u64]) -> usize

@@ -15,8 +15,8 @@ use Rattle.std.specs.Prelude.{Some, None, is_some}
 use Rattle.format.specs.Prelude.{pick}
 use Rattle.format.specs.Leb.{little, uleb_f, uleb}
 use Rattle.format.specs.declared.Machine.{Machine}
-use Rattle.format.specs.Constants.{pcrel_sdata4, indirect_pcrel_sdata4, personality_symbol, except_table}
-use Rattle.format.specs.Headers.{plain, personal, named, Key, size_of, size_or0, pointer_bytes, letters, augmentation, lsda_letter, augmentation_data, counted, header_data, header_id, data_factor, header_fields}
+use Rattle.format.specs.Constants.{pcrel_sdata4}
+use Rattle.format.specs.Headers.{plain, named, Key, pointer_bytes, letters, augmentation, lsda_letter, augmentation_data, counted, header_data, header_id, data_factor, header_fields}
 use Rattle.format.proofs.LebBack.{little-length}
 use Rattle.lists.specs.declared.Lsda.{Lsda}
 use Rattle.lists.specs.declared.Personality.{Personality}
@@ -62,13 +62,6 @@ pub named_tail : (word ret : ℕ) (signal : Bool) (p : Personality) → tail_of 
 unfolding tail_of augmentation_data counted named_data
 named_tail word ret signal p =
     rw (named_letters_lem p.encoding p.routine p.lsda, named_length p.encoding (pointer_bytes word p.encoding) p.lsda)
-
--- landings have a personality of their own
-pub personal_tail : (word ret : ℕ) (signal : Bool) {p : Personality}
-    → p ≡ record { encoding = indirect_pcrel_sdata4; routine = personality_symbol; lsda = Some (record { encoding = pcrel_sdata4; symbol = except_table }) }
-    → tail_of word ret signal personal ≡ tail_of word ret signal (named_by p)
-unfolding tail_of letters augmentation_data lsda_letter lsda_of pointer_bytes size_of size_or0 pick
-personal_tail word ret signal h = rw h
 
 -- ---- the fields
 

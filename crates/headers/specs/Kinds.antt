@@ -1,9 +1,10 @@
 -- The parts of a header's fields.
-use Rattle.std.specs.Prelude.{ℕ, ◌<◌, Bool, List, [], ◌∷◌, ◌++◌, replicate, IfSome}
+use Rattle.std.specs.Prelude.{ℕ, ◌<◌, Bool, List, [], ◌∷◌, ◌++◌, replicate, IfSome, Some, None}
+use Rattle.std.specs.Prelude as code
 use Rattle.std.proofs.Math.Option.{Option}
 use Rattle.format.specs.Prelude.{pick}
 use Rattle.format.specs.Leb.{uleb, sleb}
-use Rattle.format.specs.Constants.{pcrel_sdata4}
+use Rattle.format.specs.Constants.{pcrel_sdata4, indirect_pcrel_sdata4, personality_symbol, except_table}
 use Rattle.format.specs.Headers.{Kind, Key, letters, lsda_letter, augmentation_data, counted, data_factor}
 use Rattle.lists.specs.declared.Extent.{Extent}
 use Rattle.lists.specs.declared.Personality.{Personality}
@@ -14,6 +15,16 @@ use Rattle.header_keys.specs.declared.Kind.TheVariants as variants
 -- the key without its rows: all that the fields and the relocations depend on
 unfoldable pub head_in : Extent → Key
 head_in e = record { kind = kind_in e; signal = e.signal; rows = [] }
+
+-- the personality that a header names: that of functions with landings has its own encodings and symbols
+unfoldable pub personality_for : declared.Kind → code.Option Personality
+personality_for variants.Plain = None
+personality_for variants.Personal =
+    Some (record { encoding = indirect_pcrel_sdata4; routine = personality_symbol; lsda = Some (record { encoding = pcrel_sdata4; symbol = except_table }) })
+personality_for (variants.Named p) = Some p
+
+abbrev pub personality_in : Extent → code.Option Personality
+personality_in e = personality_for (asked_kind e)
 
 -- a personality's encoding is a byte
 abbrev pub EncodingFits : Extent → Type 0

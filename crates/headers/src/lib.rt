@@ -4,13 +4,13 @@
 ghost use Rattle.std.specs.Prelude.{◌≡◌, [], ◌∷◌, ◌+◌, ◌*◌, ◌^◌, ◌≤◌, ◌<◌, length, IfSome};
 ghost use Rattle.format.proofs.Wrote.{Wrote};
 ghost use Rattle.format.specs.Lists.{numbers_of};
-ghost use Rattle.format.specs.Headers.{padding, pointer_reloc, plain, personal, letters, lsda_letter, augmentation_data, data_factor, header_fields, pointer_place, header_relocs};
+ghost use Rattle.format.specs.Headers.{padding, pointer_reloc, plain, letters, lsda_letter, augmentation_data, data_factor, header_fields, pointer_place, header_relocs};
 ghost use Rattle.format.proofs.Fits.{MachineFits};
 ghost use Rattle.header_keys.specs.Functions.{key_in};
 ghost use Rattle.format.proofs.SectionSize.{Aligned};
 ghost use Rattle.headers.specs.Entries.{Closed};
 ghost use Rattle.header_keys.specs.Kinds.{lsda_of, named_by, asked_kind, kind_in};
-ghost use Rattle.headers.specs.Kinds.{head_in, EncodingFits, NamedFits, KindFits, ending, middle, named_letters, named_data, header_reloc_count};
+ghost use Rattle.headers.specs.Kinds.{head_in, personality_in, EncodingFits, NamedFits, KindFits, ending, middle, named_letters, named_data, header_reloc_count};
 ghost use Rattle.headers.specs.Written.{middle_of, tail_by, fields_of, starts_of, header_of};
 
 use format::Machine;
@@ -20,9 +20,13 @@ use lists::{Extent, Lsda, Personality};
 use numbers::encodings;
 use rows::Word;
 
+// Kept: sizes stand beside bytes, here and in records. As one function over a buffer or a counter each clause would speak of both, and a
+// size would have to be asked with the places and symbols that its bytes take.
+
 // ---- the end of an entry
 
 // Zeros after n bytes of a section, up to the alignment.
+// Kept: no `next_multiple_of`, which overflows near the top: public `padding` takes any n.
 #[tactic(auto, unfolding(format::specs::Headers::padding))]
 fn gap(align: usize, n: usize) -> usize
     requires { 0 < align }
@@ -78,9 +82,41 @@ pub fn pointer(out: &mut [u64], i: usize, word: u64, place: u64, symbol: u64, e:
     )
 }
 
+// ---- the personality
+
+// The personality that a function's header names. That of functions with landings is indirect, relative and of 4 bytes, and so is the
+// pointer to their call sites.
+#[tactic(auto, unfolding(crate::specs::Kinds::personality_in, crate::specs::Kinds::personality_for))]
+pub fn personality(e: &Extent) -> Option<Personality>
+    ensures { result ≡ personality_in e.now }
+{
+    match kind_of(e) {
+        Kind::Plain => None,
+        Kind::Personal => Some(Personality {
+            encoding: encodings::INDIRECT_PCREL_SDATA4,
+            routine: relocs::PERSONALITY,
+            lsda: Some(Lsda {
+                encoding: encodings::PCREL_SDATA4,
+                symbol: relocs::EXCEPT_TABLE,
+            }),
+        }),
+        Kind::Named(p) => Some(p),
+    }
+}
+
 // ---- the fields
 
 // Kept: in all that write a part of a header the list and the place stand apart, as in leb; what is written is the function.
+
+// Letters of the augmentation string.
+fn text(out: &mut [u8], at: usize, letters: &[u8]) -> usize
+    requires { at + length letters.now ≤ length out.old }
+    ensures { Wrote out.old out.new at result letters.now }
+{
+    let past = at + letters.len();
+    out[at..past].copy_from_slice(letters);
+    past
+}
 
 // The end of the augmentation string: S for a signal frame, and a 0.
 fn ending(out: &mut [u8], at: usize, signal: bool) -> usize
@@ -88,9 +124,9 @@ fn ending(out: &mut [u8], at: usize, signal: bool) -> usize
     ensures { Wrote out.old out.new at result (ending signal) }
 {
     if signal {
-        return leb::le(out, at, 2, 0x53);
+        return text(out, at, b"S\0");
     }
-    leb::byte(out, at, 0)
+    text(out, at, b"\0")
 }
 
 // The data alignment factor, minus the word.
@@ -118,9 +154,10 @@ fn plain_header(out: &mut [u8], at: usize, f: &Function) -> usize
     requires { at + length (tail_by f.now plain) ≤ length out.old }
     ensures { Wrote out.old out.new at result (tail_by f.now plain) }
 {
-    let a = leb::le(out, at, 2, 0x527a);
+    let a = text(out, at, b"zR");
     let b = middle(out, a, f);
-    leb::le(out, b, 2, 0x1b01)
+    let c = leb::byte(out, b, 1);
+    leb::byte(out, c, encodings::PCREL_SDATA4 as u8)
 }
 
 // z, P, L where there is an LSDA, R.
@@ -129,9 +166,9 @@ fn named_letters(out: &mut [u8], at: usize, lsda: bool) -> usize
     ensures { Wrote out.old out.new at result (named_letters lsda) }
 {
     if lsda {
-        return leb::le(out, at, 4, 0x524c507a);
+        return text(out, at, b"zPLR");
     }
-    leb::le(out, at, 3, 0x52507a)
+    text(out, at, b"zPR")
 }
 
 // The LSDA's encoding, where there is an LSDA.
@@ -169,32 +206,14 @@ fn named_header(out: &mut [u8], at: usize, f: &Function, p: &Personality) -> usi
     named_data(out, c, p, size as usize)
 }
 
-// The personality of functions with landings: indirect, relative, 4 bytes, and so is the pointer to their call sites.
-fn personal_header(out: &mut [u8], at: usize, f: &Function) -> usize
-    requires { at + length (tail_by f.now personal) ≤ length out.old }
-    ensures { Wrote out.old out.new at result (tail_by f.now personal) }
-{
-    let call_sites = Lsda {
-        encoding: encodings::PCREL_SDATA4,
-        symbol: relocs::EXCEPT_TABLE,
-    };
-    let of_landings = Personality {
-        encoding: encodings::INDIRECT_PCREL_SDATA4,
-        routine: relocs::PERSONALITY,
-        lsda: Some(call_sites),
-    };
-    named_header(out, at, f, &of_landings)
-}
-
 // What follows the version, by the function's record.
 fn tail(out: &mut [u8], at: usize, f: &Function) -> usize
     requires { KindFits (asked_kind f.now.extent) × (at + length (tail_by f.now (kind_in f.now.extent)) ≤ length out.old) }
     ensures { Wrote out.old out.new at result (tail_by f.now (kind_in f.now.extent)) }
 {
-    match kind_of(&f.extent) {
-        Kind::Plain => plain_header(out, at, f),
-        Kind::Personal => personal_header(out, at, f),
-        Kind::Named(p) => named_header(out, at, f, &p),
+    match personality(&f.extent) {
+        Some(p) => named_header(out, at, f, &p),
+        None => plain_header(out, at, f),
     }
 }
 
@@ -269,10 +288,9 @@ impl Head<'_> {
     fn letters_size(&self) -> usize
         ensures { (result ≡ length (letters (kind_in self.now.extent.now))) × (result ≤ 4) }
     {
-        match kind_of(self.extent) {
-            Kind::Plain => 2,
-            Kind::Personal => 4,
-            Kind::Named(p) => 3 + usize::from(p.lsda.is_some()),
+        match personality(self.extent) {
+            Some(p) => 3 + usize::from(p.lsda.is_some()),
+            None => 2,
         }
     }
 
@@ -280,17 +298,17 @@ impl Head<'_> {
     fn data_size(&self) -> usize
         ensures { (result ≡ length (augmentation_data self.now.machine.now.word (kind_in self.now.extent.now))) × (result ≤ 11) }
     {
-        match kind_of(self.extent) {
-            Kind::Plain => 1,
-            Kind::Personal => 7,
-            Kind::Named(p) => {
+        match personality(self.extent) {
+            Some(p) => {
                 let pointer = numbers::pointer_bytes(self.machine.word, p.encoding);
                 2 + pointer as usize + usize::from(p.lsda.is_some())
             }
+            None => 1,
         }
     }
 
     // How many bytes `fields` stores; the data's length is one of them.
+    // Kept: `debug`, here and in what is below, is a `bool`, for the reason at `written::Function` of header_keys.
     fn fields_size(&self, debug: bool) -> usize
         ensures { (result ≡ length (header_fields debug self.now.machine.now (head_in self.now.extent.now))) × (result ≤ 44) }
     {
@@ -345,14 +363,11 @@ pub fn header_relocs_count(debug: bool, e: &Extent) -> usize
     if debug {
         return 0;
     }
-    match kind_of(e) {
-        Kind::Plain => 0,
-        Kind::Personal => 1,
-        Kind::Named(_) => 1,
-    }
+    usize::from(personality(e).is_some())
 }
 
-// The relocation of a header's personality. It asks no more of the function than its kind and the machine, so it takes no `Function`.
+// The relocation of a header's personality.
+// Kept: no `Function`, whose parts these are: of its questions this asks the machine's alone (D124 of docs/DECISIONS.md).
 pub fn header_relocs(
     out: &mut [u64],
     i: usize,
@@ -367,27 +382,19 @@ pub fn header_relocs(
     if debug {
         return i;
     }
+    let Some(p) = personality(e) else {
+        return i;
+    };
     let head = Head {
         machine: m,
         extent: e,
     };
-    match kind_of(e) {
-        Kind::Plain => i,
-        Kind::Personal => pointer(
-            out,
-            i,
-            m.word,
-            head.pointer_place(at),
-            relocs::PERSONALITY,
-            encodings::INDIRECT_PCREL_SDATA4,
-        ),
-        Kind::Named(p) => pointer(
-            out,
-            i,
-            m.word,
-            head.pointer_place(at),
-            p.routine,
-            p.encoding,
-        ),
-    }
+    pointer(
+        out,
+        i,
+        m.word,
+        head.pointer_place(at),
+        p.routine,
+        p.encoding,
+    )
 }

@@ -16,7 +16,7 @@ use Rattle.leb.specs.Groups.{groups}
 use Rattle.leb.specs.Signs.{is_negative}
 use Rattle.leb.proofs.SevenBits.{signed}
 
-below_zero : (v : ℤ) → lt_z v (pos 0) ≡ is_negative v
+pub below_zero : (v : ℤ) → lt_z v (pos 0) ≡ is_negative v
 unfolding is_negative
 below_zero (pos n) = le-ltb n 0 (omega arith)
 below_zero (negsuc n) = refl
@@ -33,9 +33,6 @@ cast e h = rw e (tt, record { fits = omega arith })
 module _ (v : ℤ) (f : SFits w64 v) where
   pub bytes_of : {neg : Bool} {m : ℕ} → neg ≡ is_negative (to_z w64 (of_z w64 v)) → m ≡ mag (to_z w64 (of_z w64 v)) → groups 64 neg m ≡ sleb v
   bytes_of a b = rw (a, b, to_z-of_z f, signed)
-
-  pub sign : lt_z (to_z w64 (of_z w64 v)) (pos 0) ≡ is_negative v
-  sign = rw (to_z-of_z f) (below_zero v)
 
   module _ (h : lt_z (to_z w64 (of_z w64 v)) (pos 0) ≡ true) where
     less : negsuc 0 -ℤ to_z w64 (of_z w64 v) ≡ pos (mag v)

@@ -17,7 +17,7 @@ pub const LINE_STRIDE: usize = 7;
 // question's number is 0.
 // Kept: the questions' numbers, which C reads.
 #[repr(C)]
-#[derive(Clone, Copy)]
+#[derive(Clone, Copy, Default)]
 pub struct Listed {
     pub number: u64,
     pub lines: u64,
@@ -31,9 +31,7 @@ pub fn unlisted(number: u64) -> Listed
 {
     Listed {
         number,
-        lines: 0,
-        ending: 0,
-        from: 0,
+        ..Listed::default()
     }
 }
 

@@ -14,6 +14,8 @@ use reader::operation::Operations;
 use reader::run;
 
 // The largest offset.
+// Kept: by name, as the definition has it (`highest`). By `checked_add` the two cases of a step would be told by whether the sum fits 64 bits, and a
+// law would lead from there to `highest`.
 const HIGHEST: u64 = 0xffffffffffffffff;
 
 // ---- the lines
@@ -24,13 +26,16 @@ fn line(out: &mut [u64], at: usize, offset: u64, rules: Rules) -> usize
     ensures { Wrote out.old out.new at result (line_numbers offset rules) }
 {
     let n = unwind::numbers_of(Ok(rules), false);
-    let a = relocs::number(out, at, offset);
-    let b = relocs::number(out, a, n.frame);
-    let c = relocs::number(out, b, n.frame_register);
-    let d = relocs::number(out, c, n.frame_offset);
-    let e = relocs::number(out, d, n.rule);
-    let f = relocs::number(out, e, n.rule_value);
-    relocs::number(out, f, n.signing)
+    out[at..at + LINE_STRIDE].copy_from_slice(&[
+        offset,
+        n.frame,
+        n.frame_register,
+        n.frame_offset,
+        n.rule,
+        n.rule_value,
+        n.signing,
+    ]);
+    at + LINE_STRIDE
 }
 
 // The answer where the lines go up to `end` and no question ends them.
@@ -38,10 +43,8 @@ fn listed(end: usize) -> Listed
     ensures { result ≡ record { number = 0; lines = end / line_stride; ending = 0; from = 0 } }
 {
     Listed {
-        number: 0,
         lines: (end / LINE_STRIDE) as u64,
-        ending: 0,
-        from: 0,
+        ..Listed::default()
     }
 }
 

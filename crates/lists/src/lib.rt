@@ -1,12 +1,11 @@
 // The machine, functions and codes out of the lists of numbers, and questions 11, 12 and 13. Ported from rucc-asm/src/unwind.rs (Extent, Named, Relaxed) of tamnd/rucc, changed: see NOTICE.
 #![tactic(auto)]
 
-ghost use Rattle.std.specs.Prelude.{◌≡◌, ℕ, ◌+◌, ◌*◌, ◌≤◌, ◌<◌, length, take, drop, T, leb, eqb};
-ghost use Rattle.std.specs.Int.{w64};
-ghost use Rattle.std.proofs.Common.{to_z};
-ghost use Rattle.format.specs.Prelude.{all};
+ghost use Rattle.std.specs.Prelude.{◌≡◌, ℕ, Ok, Err, ◌+◌, ◌*◌, ◌≤◌, ◌<◌, length, take, drop, T, leb, eqb};
+ghost use Rattle.format.specs.Prelude.{all, pick};
+ghost use Rattle.format.specs.declared.question.Question.TheVariants.{Interface};
 ghost use Rattle.format.specs.Machine.{machine_ok, machine_of};
-ghost use Rattle.format.specs.Lists.{count, field, function_stride, row_stride, landing_stride, pair_stride, prologue_stride, code_stride, most_records, symbol_ok, pointer_ok, row_ok_at, pair_ok_at, code_ok_at, all_in, sum_of, pairs_in, prologue_ok_at, codes_ok, code_at};
+ghost use Rattle.format.specs.Lists.{count, field, function_stride, row_stride, landing_stride, pair_stride, prologue_stride, code_stride, most_records, symbol_ok, mark_ok, pointer_ok, row_ok_at, pair_ok_at, code_ok_at, all_in, sum_of, pairs_in, prologue_ok_at, codes_ok, code_at};
 ghost use Rattle.format.specs.Coded.{numbered_at};
 ghost use Rattle.format.proofs.Asked.{question_of};
 ghost use Rattle.lists.specs.Room.{room_for};
@@ -17,11 +16,13 @@ ghost use Rattle.lists.specs.Extents.{lsda_at, personality_at, labels_at, extent
 use format::{Counts, Machine, Question, Refusal, Seh};
 pub use numbers::inside;
 use numbers::{codes, machine};
+use record::Record;
 use rows::{ROW_STRIDE, row_ok};
 
 pub mod direct;
 pub mod function;
 pub mod output;
+pub mod record;
 
 // How many numbers a record of each list has.
 pub const FUNCTION_STRIDE: usize = 18;
@@ -106,6 +107,8 @@ pub fn word_ok(m: Machine) -> bool
 }
 
 // The machine of a list.
+// Kept: the loop, and no `array::from_fn(|i| ms[machine::MAP + i] as u8)`. What that ensures is a chain of calls (`CallableAtEachTurn`), out of which
+// the bytes come by an induction of their own; the loop's invariant is an equation of two `take`s.
 pub fn machine_of(ms: &[u64]) -> Machine
     requires { T (machine_ok ms.now) }
     ensures { result ≡ machine_of ms.now }
@@ -124,7 +127,21 @@ pub fn machine_of(ms: &[u64]) -> Machine
     }
 }
 
+// The machine of a list that question 11 accepts.
+#[tactic(auto, unfolding(format::specs::Prelude::pick))]
+pub fn read_machine(ms: &[u64]) -> Result<Machine, Question>
+    ensures { result ≡ pick (machine_ok ms.now) (Ok (machine_of ms.now)) (Err Interface) }
+{
+    if !machine_ok(ms) {
+        return Err(Question::Interface);
+    }
+    Ok(machine_of(ms))
+}
+
 // ---- records out of the lists
+
+// Kept: a public function takes a list and a record's place, and says itself that the record lies in the list: to take a `Record` would ask more of
+// its caller by type. A test that a closure calls says it too, since the closure's `requires` comes from there.
 
 // The data of a function's exceptions, by the encoding and the symbol of the pointer to it.
 #[derive(Clone, Copy)]
@@ -150,6 +167,8 @@ pub struct Labels {
 }
 
 // Function k of the list: its numbers, with the marks as answers. What they say is function_at of the definitions.
+// Kept: place and count, and no range, here, in Labels and in Prologue: nothing is asked of what the list says, so the sum may pass what a number
+// holds.
 #[derive(Clone, Copy)]
 pub struct Extent {
     pub symbol: u64,
@@ -164,51 +183,123 @@ pub struct Extent {
     pub relaxed: Option<Labels>,
 }
 
-#[tactic(auto, unfolding(crate::specs::Extents::lsda_at, crate::specs::Extents::marked, format::specs::Lists::mark, format::specs::Prelude::pick))]
-fn lsda_at(fs: &[u64], k: usize) -> Option<Lsda>
-    requires { function_stride * k + function_stride ≤ length fs.now }
-    ensures { result ≡ lsda_at fs.now k }
-{
-    let b = FUNCTION_STRIDE * k;
-    if fs[b + function::LSDA] == 0 {
-        return None;
+impl Record<'_, FUNCTION_STRIDE> {
+    #[tactic(auto, unfolding(crate::specs::Extents::lsda_at, crate::specs::Extents::marked, format::specs::Lists::mark, format::specs::Prelude::pick))]
+    fn lsda(&self) -> Option<Lsda>
+        ensures { result ≡ lsda_at self.now.list.now self.now.k }
+    {
+        if self.number(function::LSDA) == 0 {
+            return None;
+        }
+        Some(Lsda {
+            encoding: self.number(function::LSDA_ENCODING),
+            symbol: self.number(function::LSDA_SYMBOL),
+        })
     }
-    Some(Lsda {
-        encoding: fs[b + function::LSDA_ENCODING],
-        symbol: fs[b + function::LSDA_SYMBOL],
-    })
-}
 
-#[tactic(auto, unfolding(crate::specs::Extents::personality_at, crate::specs::Extents::marked, format::specs::Lists::mark, format::specs::Prelude::pick))]
-fn personality_at(fs: &[u64], k: usize) -> Option<Personality>
-    requires { function_stride * k + function_stride ≤ length fs.now }
-    ensures { result ≡ personality_at fs.now k }
-{
-    let b = FUNCTION_STRIDE * k;
-    if fs[b + function::PERSONALITY] == 0 {
-        return None;
+    #[tactic(auto, unfolding(crate::specs::Extents::personality_at, crate::specs::Extents::marked, format::specs::Lists::mark, format::specs::Prelude::pick))]
+    fn personality(&self) -> Option<Personality>
+        ensures { result ≡ personality_at self.now.list.now self.now.k }
+    {
+        if self.number(function::PERSONALITY) == 0 {
+            return None;
+        }
+        Some(Personality {
+            encoding: self.number(function::ENCODING),
+            routine: self.number(function::ROUTINE),
+            lsda: self.lsda(),
+        })
     }
-    Some(Personality {
-        encoding: fs[b + function::ENCODING],
-        routine: fs[b + function::ROUTINE],
-        lsda: lsda_at(fs, k),
-    })
-}
 
-#[tactic(auto, unfolding(crate::specs::Extents::labels_at, crate::specs::Extents::marked, format::specs::Lists::mark, format::specs::Prelude::pick))]
-fn labels_at(fs: &[u64], k: usize) -> Option<Labels>
-    requires { function_stride * k + function_stride ≤ length fs.now }
-    ensures { result ≡ labels_at fs.now k }
-{
-    let b = FUNCTION_STRIDE * k;
-    if fs[b + function::RELAXED] == 0 {
-        return None;
+    #[tactic(auto, unfolding(crate::specs::Extents::labels_at, crate::specs::Extents::marked, format::specs::Lists::mark, format::specs::Prelude::pick))]
+    fn labels(&self) -> Option<Labels>
+        ensures { result ≡ labels_at self.now.list.now self.now.k }
+    {
+        if self.number(function::RELAXED) == 0 {
+            return None;
+        }
+        Some(Labels {
+            end: self.number(function::END),
+            pairs_at: self.number(function::PAIRS_AT) as usize,
+            pairs: self.number(function::PAIRS) as usize,
+        })
     }
-    Some(Labels {
-        end: fs[b + function::END],
-        pairs_at: fs[b + function::PAIRS_AT] as usize,
-        pairs: fs[b + function::PAIRS] as usize,
-    })
+
+    // Number j, where the function has relaxing labels.
+    #[tactic(auto, unfolding(crate::specs::Parts::where_labelled, format::specs::Lists::mark, format::specs::Prelude::pick))]
+    fn where_labelled(&self, j: usize) -> u64
+        requires { j < function_stride }
+        ensures { result ≡ where_labelled self.now.list.now self.now.k j }
+    {
+        if self.number(function::RELAXED) == 0 {
+            return 0;
+        }
+        self.number(j)
+    }
+
+    // Question 13 of the named personality, where there is one.
+    #[tactic(auto, unfolding(crate::specs::Parts::named_ok_at, format::specs::Lists::mark_ok, format::specs::Lists::when_marked))]
+    fn named_ok(&self) -> bool
+        ensures { result ≡ named_ok_at self.now.list.now self.now.k }
+    {
+        if self.number(function::PERSONALITY) == 0 {
+            return true;
+        }
+        if !pointer_ok(
+            self.number(function::ENCODING),
+            self.number(function::ROUTINE),
+        ) {
+            return false;
+        }
+        if !mark_ok(self.number(function::LSDA)) {
+            return false;
+        }
+        if self.number(function::LSDA) == 0 {
+            return true;
+        }
+        pointer_ok(
+            self.number(function::LSDA_ENCODING),
+            self.number(function::LSDA_SYMBOL),
+        )
+    }
+
+    // Question 13 of the symbol, and of where the rows and landings are.
+    #[tactic(auto, unfolding(crate::specs::Parts::ranges_ok_at))]
+    fn ranges_ok(&self, rows: &[u64], landings: &[u64]) -> bool
+        ensures { result ≡ ranges_ok_at self.now.list.now rows.now landings.now self.now.k }
+    {
+        if !symbol_ok(self.number(0)) {
+            return false;
+        }
+        let at = self.number(function::ROWS_AT);
+        let n = self.number(function::ROWS);
+        if !inside(at, n, (rows.len() / ROW_STRIDE) as u64) {
+            return false;
+        }
+        inside(
+            self.number(function::LANDINGS_AT),
+            self.number(function::LANDINGS),
+            (landings.len() / LANDING_STRIDE) as u64,
+        )
+    }
+
+    // Question 13 of the relaxing labels, where there are some, and of the pairs that they reach.
+    fn relaxed_ok(&self, pairs: &[u64]) -> bool
+        ensures { result ≡ relaxed_ok_at self.now.list.now pairs.now self.now.k }
+    {
+        if self.number(function::RELAXED) == 0 {
+            return true;
+        }
+        if !symbol_ok(self.number(function::END)) {
+            return false;
+        }
+        let at = self.number(function::PAIRS_AT);
+        let n = self.number(function::PAIRS);
+        if !inside(at, n, (pairs.len() / PAIR_STRIDE) as u64) {
+            return false;
+        }
+        (at as usize..(at + n) as usize).all(|i| pair_ok(pairs, i))
+    }
 }
 
 #[tactic(auto, unfolding(crate::specs::Extents::extent_at, format::specs::Lists::mark))]
@@ -216,18 +307,18 @@ pub fn extent_at(fs: &[u64], k: usize) -> Extent
     requires { function_stride * k + function_stride ≤ length fs.now }
     ensures { result ≡ extent_at fs.now k }
 {
-    let b = FUNCTION_STRIDE * k;
+    let f = Record::<FUNCTION_STRIDE> { list: fs, k };
     Extent {
-        symbol: fs[b],
-        length: fs[b + function::LENGTH],
-        rows_at: fs[b + function::ROWS_AT] as usize,
-        rows: fs[b + function::ROWS] as usize,
-        landings_at: fs[b + function::LANDINGS_AT] as usize,
-        landings: fs[b + function::LANDINGS] as usize,
-        simple: fs[b + function::SIMPLE] != 0,
-        signal: fs[b + function::SIGNAL] != 0,
-        personality: personality_at(fs, k),
-        relaxed: labels_at(fs, k),
+        symbol: f.number(0),
+        length: f.number(function::LENGTH),
+        rows_at: f.number(function::ROWS_AT) as usize,
+        rows: f.number(function::ROWS) as usize,
+        landings_at: f.number(function::LANDINGS_AT) as usize,
+        landings: f.number(function::LANDINGS) as usize,
+        simple: f.number(function::SIMPLE) != 0,
+        signal: f.number(function::SIGNAL) != 0,
+        personality: f.personality(),
+        relaxed: f.labels(),
     }
 }
 
@@ -243,10 +334,11 @@ pub fn landing_at(ls: &[u64], i: usize) -> Landing
     requires { landing_stride * i + landing_stride ≤ length ls.now }
     ensures { result ≡ landing_in ls.now i }
 {
+    let l = Record::<LANDING_STRIDE> { list: ls, k: i };
     Landing {
-        start: ls[LANDING_STRIDE * i],
-        size: ls[LANDING_STRIDE * i + 1],
-        pad: ls[LANDING_STRIDE * i + 2],
+        start: l.number(0),
+        size: l.number(1),
+        pad: l.number(2),
     }
 }
 
@@ -263,11 +355,12 @@ pub fn pair_at(ps: &[u64], i: usize) -> Pair
     requires { pair_stride * i + pair_stride ≤ length ps.now }
     ensures { result ≡ pair_in ps.now i }
 {
+    let p = Record::<PAIR_STRIDE> { list: ps, k: i };
     Pair {
-        place1: ps[PAIR_STRIDE * i],
-        place2: ps[PAIR_STRIDE * i + 1],
-        symbol1: ps[PAIR_STRIDE * i + 2],
-        symbol2: ps[PAIR_STRIDE * i + 3],
+        place1: p.number(0),
+        place2: p.number(1),
+        symbol1: p.number(2),
+        symbol2: p.number(3),
     }
 }
 
@@ -285,21 +378,23 @@ pub fn prologue_at(fs: &[u64], k: usize) -> Prologue
     requires { prologue_stride * k + prologue_stride ≤ length fs.now }
     ensures { result ≡ prologue_in fs.now k }
 {
+    let f = Record::<PROLOGUE_STRIDE> { list: fs, k };
     Prologue {
-        symbol: fs[PROLOGUE_STRIDE * k],
-        length: fs[PROLOGUE_STRIDE * k + direct::LENGTH],
-        end: fs[PROLOGUE_STRIDE * k + direct::END],
-        codes_at: fs[PROLOGUE_STRIDE * k + direct::CODES_AT] as usize,
-        codes: fs[PROLOGUE_STRIDE * k + direct::CODES] as usize,
+        symbol: f.number(0),
+        length: f.number(direct::LENGTH),
+        end: f.number(direct::END),
+        codes_at: f.number(direct::CODES_AT) as usize,
+        codes: f.number(direct::CODES) as usize,
     }
 }
 
 // The offset where the instruction of code i ends.
+#[tactic(auto, unfolding(format::specs::Lists::code_at))]
 pub fn code_offset_at(cs: &[u64], i: usize) -> u64
     requires { code_stride * i + code_stride ≤ length cs.now }
     ensures { result ≡ (code_at cs.now i).0 }
 {
-    cs[CODE_STRIDE * i]
+    Record::<CODE_STRIDE> { list: cs, k: i }.number(0)
 }
 
 // Code i.
@@ -308,19 +403,16 @@ pub fn code_at(cs: &[u64], i: usize) -> Seh
     requires { code_stride * i + code_stride ≤ length cs.now }
     ensures { result ≡ (code_at cs.now i).1 }
 {
-    let kind = cs[CODE_STRIDE * i + direct::CODE_KIND];
-    let reg = cs[CODE_STRIDE * i + direct::CODE_REGISTER];
-    let value = cs[CODE_STRIDE * i + direct::CODE_VALUE].cast_signed();
-    if kind == codes::PUSH {
-        return Seh::Push(reg);
+    let c = Record::<CODE_STRIDE> { list: cs, k: i };
+    let kind = c.number(direct::CODE_KIND);
+    let reg = c.number(direct::CODE_REGISTER);
+    let value = c.number(direct::CODE_VALUE).cast_signed();
+    match kind {
+        codes::PUSH => Seh::Push(reg),
+        codes::ALLOC => Seh::Alloc(value),
+        codes::FRAME => Seh::Frame(reg, value),
+        _ => Seh::Save(reg, c.number(direct::CODE_VECTOR) != 0, value),
     }
-    if kind == codes::ALLOC {
-        return Seh::Alloc(value);
-    }
-    if kind == codes::FRAME {
-        return Seh::Frame(reg, value);
-    }
-    Seh::Save(reg, cs[CODE_STRIDE * i + direct::CODE_VECTOR] != 0, value)
 }
 
 // ---- question 13 of one record
@@ -334,6 +426,14 @@ pub fn symbol_ok(s: u64) -> bool
         return false;
     }
     s < PAST_SYMBOLS
+}
+
+// A mark is 0 or 1.
+#[tactic(auto, unfolding(format::specs::Lists::mark_ok))]
+fn mark_ok(n: u64) -> bool
+    ensures { result ≡ mark_ok n }
+{
+    n <= 1
 }
 
 // An encoding byte and a symbol.
@@ -353,10 +453,11 @@ fn pair_ok(ps: &[u64], i: usize) -> bool
     requires { pair_stride * i + pair_stride ≤ length ps.now }
     ensures { result ≡ pair_ok_at ps.now i }
 {
-    if !symbol_ok(ps[PAIR_STRIDE * i + 2]) {
+    let p = Record::<PAIR_STRIDE> { list: ps, k: i };
+    if !symbol_ok(p.number(2)) {
         return false;
     }
-    symbol_ok(ps[PAIR_STRIDE * i + 3])
+    symbol_ok(p.number(3))
 }
 
 // The operands of code i: only those that its kind has.
@@ -365,23 +466,15 @@ fn code_ok(cs: &[u64], i: usize) -> bool
     requires { code_stride * i + code_stride ≤ length cs.now }
     ensures { result ≡ code_ok_at cs.now i }
 {
-    let kind = cs[CODE_STRIDE * i + direct::CODE_KIND];
-    if codes::SAVE < kind {
-        return false;
+    let c = Record::<CODE_STRIDE> { list: cs, k: i };
+    let vector = c.number(direct::CODE_VECTOR);
+    match c.number(direct::CODE_KIND) {
+        codes::PUSH => vector == 0 && c.number(direct::CODE_VALUE) == 0,
+        codes::ALLOC => vector == 0 && c.number(direct::CODE_REGISTER) == 0,
+        codes::FRAME => vector == 0,
+        codes::SAVE => vector <= 1,
+        _ => false,
     }
-    if kind == codes::SAVE {
-        return cs[CODE_STRIDE * i + direct::CODE_VECTOR] <= 1;
-    }
-    if cs[CODE_STRIDE * i + direct::CODE_VECTOR] != 0 {
-        return false;
-    }
-    if kind == codes::FRAME {
-        return true;
-    }
-    if kind == codes::ALLOC {
-        return cs[CODE_STRIDE * i + direct::CODE_REGISTER] == 0;
-    }
-    cs[CODE_STRIDE * i + direct::CODE_VALUE] == 0
 }
 
 // ---- question 13 of the records that a function reaches
@@ -394,43 +487,17 @@ pub fn rows_ok(rows: &[u64], at: usize, n: usize) -> bool
     (at..at + n).all(|i| row_ok(rows, i))
 }
 
-// The named personality of function k, where it has one.
-#[tactic(auto, unfolding(crate::specs::Parts::named_ok_at, format::specs::Lists::mark_ok, format::specs::Lists::when_marked))]
-fn named_ok(fs: &[u64], k: usize) -> bool
-    requires { function_stride * k + function_stride ≤ length fs.now }
-    ensures { result ≡ named_ok_at fs.now k }
-{
-    if fs[FUNCTION_STRIDE * k + function::PERSONALITY] == 0 {
-        return true;
-    }
-    if !pointer_ok(
-        fs[FUNCTION_STRIDE * k + function::ENCODING],
-        fs[FUNCTION_STRIDE * k + function::ROUTINE],
-    ) {
-        return false;
-    }
-    if 1 < fs[FUNCTION_STRIDE * k + function::LSDA] {
-        return false;
-    }
-    if fs[FUNCTION_STRIDE * k + function::LSDA] == 0 {
-        return true;
-    }
-    pointer_ok(
-        fs[FUNCTION_STRIDE * k + function::LSDA_ENCODING],
-        fs[FUNCTION_STRIDE * k + function::LSDA_SYMBOL],
-    )
-}
-
 // The record of direct codes k, and the codes that it reaches.
 fn prologue_ok(fs: &[u64], codes: &[u64], k: usize) -> bool
     requires { prologue_stride * k + prologue_stride ≤ length fs.now }
     ensures { result ≡ prologue_ok_at fs.now codes.now k }
 {
-    if !symbol_ok(fs[PROLOGUE_STRIDE * k]) {
+    let f = Record::<PROLOGUE_STRIDE> { list: fs, k };
+    if !symbol_ok(f.number(0)) {
         return false;
     }
-    let at = fs[PROLOGUE_STRIDE * k + direct::CODES_AT];
-    let n = fs[PROLOGUE_STRIDE * k + direct::CODES];
+    let at = f.number(direct::CODES_AT);
+    let n = f.number(direct::CODES);
     if !inside(at, n, (codes.len() / CODE_STRIDE) as u64) {
         return false;
     }
@@ -464,15 +531,11 @@ pub fn sum_ok(xs: &[u64], stride: usize, j: usize, n: usize) -> bool
 }
 
 // Number j of function k, where it has relaxing labels.
-#[tactic(auto, unfolding(crate::specs::Parts::where_labelled, format::specs::Lists::mark, format::specs::Prelude::pick))]
 pub fn where_labelled(fs: &[u64], k: usize, j: usize) -> u64
     requires { (j < function_stride) × (function_stride * k + function_stride ≤ length fs.now) }
     ensures { result ≡ where_labelled fs.now k j }
 {
-    if fs[FUNCTION_STRIDE * k + function::RELAXED] == 0 {
-        return 0;
-    }
-    fs[FUNCTION_STRIDE * k + j]
+    Record::<FUNCTION_STRIDE> { list: fs, k }.where_labelled(j)
 }
 
 // The pairs of n functions, summed, are at most the most of records.
@@ -510,71 +573,35 @@ impl Lists<'_> {
         self.functions.len() / FUNCTION_STRIDE
     }
 
-    // The symbol of function k, and where its rows and landings are.
-    #[tactic(auto, unfolding(crate::specs::Parts::ranges_ok_at))]
-    fn ranges_ok(&self, k: usize) -> bool
-        requires { function_stride * k + function_stride ≤ length self.now.functions.now }
-        ensures { result ≡ ranges_ok_at self.now.functions.now self.now.rows.now self.now.landings.now k }
-    {
-        if !symbol_ok(self.functions[FUNCTION_STRIDE * k]) {
-            return false;
-        }
-        let at = self.functions[FUNCTION_STRIDE * k + function::ROWS_AT];
-        let n = self.functions[FUNCTION_STRIDE * k + function::ROWS];
-        if !inside(at, n, (self.rows.len() / ROW_STRIDE) as u64) {
-            return false;
-        }
-        inside(
-            self.functions[FUNCTION_STRIDE * k + function::LANDINGS_AT],
-            self.functions[FUNCTION_STRIDE * k + function::LANDINGS],
-            (self.landings.len() / LANDING_STRIDE) as u64,
-        )
-    }
-
-    // The relaxing labels of function k, where it has them, and the pairs that they reach.
-    fn relaxed_ok(&self, k: usize) -> bool
-        requires { function_stride * k + function_stride ≤ length self.now.functions.now }
-        ensures { result ≡ relaxed_ok_at self.now.functions.now self.now.pairs.now k }
-    {
-        if self.functions[FUNCTION_STRIDE * k + function::RELAXED] == 0 {
-            return true;
-        }
-        if !symbol_ok(self.functions[FUNCTION_STRIDE * k + function::END]) {
-            return false;
-        }
-        let at = self.functions[FUNCTION_STRIDE * k + function::PAIRS_AT];
-        let n = self.functions[FUNCTION_STRIDE * k + function::PAIRS];
-        if !inside(at, n, (self.pairs.len() / PAIR_STRIDE) as u64) {
-            return false;
-        }
-        (at as usize..(at + n) as usize).all(|i| pair_ok(self.pairs, i))
-    }
-
     // Function k, and the records that it reaches but its rows.
     #[tactic(auto, unfolding(crate::specs::Parts::outline_ok_at, format::specs::Lists::mark_ok))]
     pub fn outline_ok(&self, k: usize) -> bool
         requires { function_stride * k + function_stride ≤ length self.now.functions.now }
         ensures { result ≡ outline_of self.now k }
     {
-        if !self.ranges_ok(k) {
+        let f = Record::<FUNCTION_STRIDE> {
+            list: self.functions,
+            k,
+        };
+        if !f.ranges_ok(self.rows, self.landings) {
             return false;
         }
-        if 1 < self.functions[FUNCTION_STRIDE * k + function::SIMPLE] {
+        if !mark_ok(f.number(function::SIMPLE)) {
             return false;
         }
-        if 1 < self.functions[FUNCTION_STRIDE * k + function::SIGNAL] {
+        if !mark_ok(f.number(function::SIGNAL)) {
             return false;
         }
-        if 1 < self.functions[FUNCTION_STRIDE * k + function::PERSONALITY] {
+        if !mark_ok(f.number(function::PERSONALITY)) {
             return false;
         }
-        if !named_ok(self.functions, k) {
+        if !f.named_ok() {
             return false;
         }
-        if 1 < self.functions[FUNCTION_STRIDE * k + function::RELAXED] {
+        if !mark_ok(f.number(function::RELAXED)) {
             return false;
         }
-        self.relaxed_ok(k)
+        f.relaxed_ok(self.pairs)
     }
 
     // Function k, and the records that it reaches.
@@ -585,10 +612,14 @@ impl Lists<'_> {
         if !self.outline_ok(k) {
             return false;
         }
+        let f = Record::<FUNCTION_STRIDE> {
+            list: self.functions,
+            k,
+        };
         rows_ok(
             self.rows,
-            self.functions[FUNCTION_STRIDE * k + function::ROWS_AT] as usize,
-            self.functions[FUNCTION_STRIDE * k + function::ROWS] as usize,
+            f.number(function::ROWS_AT) as usize,
+            f.number(function::ROWS) as usize,
         )
     }
 
@@ -642,28 +673,16 @@ pub fn room(needed: Counts, lent: Counts) -> Result<(), Refusal>
     ensures { numbered_at result ≡ question_of (room_for needed lent) }
 {
     if lent.places < needed.places {
-        return Err(Refusal {
-            question: Question::PlacesRoom,
-            position: 0,
-        });
+        return Err(Question::PlacesRoom.into());
     }
     if lent.bytes < needed.bytes {
-        return Err(Refusal {
-            question: Question::BytesRoom,
-            position: 0,
-        });
+        return Err(Question::BytesRoom.into());
     }
     if lent.relocations < needed.relocations {
-        return Err(Refusal {
-            question: Question::RelocationsRoom,
-            position: 0,
-        });
+        return Err(Question::RelocationsRoom.into());
     }
     if lent.sites < needed.sites {
-        return Err(Refusal {
-            question: Question::OtherRoom,
-            position: 0,
-        });
+        return Err(Question::OtherRoom.into());
     }
     Ok(())
 }

@@ -1,9 +1,7 @@
-// Numbers that the writers and the readers share: sizes of words and of pointers by their encodings, what marks a header, signed numbers as 64 bits; and the constants of the formats and of the lists. Ported from rucc-asm/src/unwind.rs (pointer_size) of tamnd/rucc, changed: see NOTICE.
+// Numbers that the writers and the readers share: sizes of words and of pointers by their encodings, what marks a header; and the constants of the formats and of the lists. Ported from rucc-asm/src/unwind.rs (pointer_size) of tamnd/rucc, changed: see NOTICE.
 #![tactic(auto)]
 
 ghost use Rattle.std.specs.Prelude.{◌≡◌, ◌-◌, ◌*◌, ◌^◌, ◌<◌, ◌≤◌};
-ghost use Rattle.std.specs.Int.{w64};
-ghost use Rattle.std.proofs.Common.{of_z};
 ghost use Rattle.format.proofs.Asked.{option_of};
 ghost use Rattle.format.specs.Machine.{is_word_size};
 ghost use Rattle.format.specs.Lists.{inside};
@@ -85,13 +83,4 @@ pub fn pointer_size(indirect: bool, word: u64, e: u64) -> Option<u64>
         return None;
     }
     size_of(word, e % encodings::DW_EH_PE_INDIRECT)
-}
-
-// ---- signed numbers
-
-// The 64 bits of a number, in two's complement.
-pub fn bits(z: i64) -> u64
-    ensures { result ≡ of_z w64 z }
-{
-    z.cast_unsigned()
 }

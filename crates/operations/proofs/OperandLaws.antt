@@ -16,6 +16,7 @@ use Rattle.std.specs.Prelude.{Some, None}
 use Rattle.format.specs.Prelude.{pick, Read, next}
 use Rattle.format.specs.Leb.{uleb, fits64, read_uleb}
 use Rattle.format.specs.Rows.{unfactor, read_register, in_range, read_offset, read_factored, read_signed, one, two, read_extended, read_operation}
+use Rattle.format.specs.declared.Row.{Row}
 use Rattle.format.specs.declared.Row.TheVariants.{DefCfaOffset, Offset, Restore, InRegister}
 use Rattle.format.specs.declared.Operation.{Operation}
 use Rattle.format.specs.declared.Operation.TheVariants.{Step, Does}
@@ -25,7 +26,7 @@ use Rattle.operations.specs.declared.fields.Position.{Position}
 use Rattle.operations.specs.Positions.{past, read_from, uleb_at, sleb_at, little_at, operation_at}
 use Rattle.operations.proofs.PositionLaws.{Past, Ahead, Takes, takes_pick, read_ahead, read_past, read_none, uleb_ahead, uleb_rest, uleb_past, uleb_none, sleb_ahead, sleb_rest, sleb_past, sleb_none, little_ahead, little_rest, little_past, little_none, mark_first, past_both, past_drop}
 use Rattle.operations.proofs.OperationLaws.{takes_register, takes_offset, takes_factored, takes_signed}
-use Rattle.operations.specs.Reads.{register_at, plain_at, factored_at, signed_at, held, read_operand, operand_at, register_row, pair_row, step_at, register_row_at, offset_row_at, pair_row_at, in_register_at, saved_at, extended_at, operand_number}
+use Rattle.operations.specs.Reads.{register_at, plain_at, factored_at, signed_at, held, read_operand, operand_at, pair_row, step_at, register_row_at, offset_row_at, pair_row_at, in_register_at, saved_at, extended_at, operand_number}
 
 -- the position in front of what is left
 in_front : (s : List ℕ) {p q : Position} {b : Bool} → Past p b q → q.at ≤ length s → past p b (length s - length (drop q.at s)) ≡ q
@@ -162,9 +163,9 @@ module _ (s : List ℕ) (p : Position) where
     behind_register : (n : Number) {r : Position} → Past q (numbers_short (n ∷ []) (drop q.at s)) r → Past p (numbers_short (unsigned ∷ n ∷ []) (drop p.at s)) r
     behind_register n i = past_both register_past i (first_mark (n ∷ []) (drop p.at s) register_is.1)
 
-    pub register_row_some : (b : ℕ) → register_row_at b s p ≡ Some (Does (register_row b v), q)
+    pub register_row_some : (of : ℕ → Row) → register_row_at of s p ≡ Some (Does (of v), q)
     unfolding register_row_at
-    register_row_some b = one_some s q (λ reg. Does (register_row b reg)) register_ahead.rest register_past register_ahead.inside
+    register_row_some of = one_some s q (λ reg. Does (of reg)) register_ahead.rest register_past register_ahead.inside
 
     -- a register and an offset
     module _ (w b : ℕ) where
@@ -183,9 +184,9 @@ module _ (s : List ℕ) (p : Position) where
   unfolding register_at
   register_gone e = read_none p _ (length s) (read_register (drop p.at s)) e
 
-  pub register_row_none : (b : ℕ) → register_at s p ≡ None → register_row_at b s p ≡ None
+  pub register_row_none : (of : ℕ → Row) → register_at s p ≡ None → register_row_at of s p ≡ None
   unfolding register_row_at
-  register_row_none b e = one_none s p _ (λ reg. Does (register_row b reg)) (register_gone e)
+  register_row_none of e = one_none s p _ (λ reg. Does (of reg)) (register_gone e)
 
   pub pair_unnamed : (w b : ℕ) → register_at s p ≡ None → pair_row_at w b s p ≡ None
   unfolding pair_row_at two next read_from

@@ -4,7 +4,7 @@ use Rattle.format.specs.Prelude.{pick, Read}
 use Rattle.format.specs.Leb.{read_little, fits64}
 use Rattle.format.specs.Rows.{read_register, read_offset, read_factored, read_signed, one, two, read_extended}
 use Rattle.format.specs.declared.Row.{Row}
-use Rattle.format.specs.declared.Row.TheVariants.{DefCfa, DefCfaOffset, DefCfaRegister, Offset, Restore, Undefined, SameValue, InRegister}
+use Rattle.format.specs.declared.Row.TheVariants.{DefCfa, DefCfaOffset, Offset, InRegister}
 use Rattle.format.specs.declared.Operation.{Operation}
 use Rattle.format.specs.declared.Operation.TheVariants.{Step, Does}
 use Rattle.format.specs.Shortest.{Number, unsigned, signed, numbers_short, extended_operands}
@@ -38,10 +38,7 @@ operand_number b = pick (eqb b 0x05) unsigned (pick (eqb b 0x0c) unsigned (pick 
 unfoldable pub operand_at : ℕ → ℕ → List ℕ → Position → Option (ℤ × Position)
 operand_at w b s p = read_from p (numbers_short (operand_number b ∷ []) (drop p.at s)) (length s) (read_operand w b (drop p.at s))
 
--- the row of an opcode with a register, and with a register and an offset
-unfoldable pub register_row : ℕ → ℕ → Row
-register_row b reg = pick (eqb b 0x06) (Restore reg) (pick (eqb b 0x07) (Undefined reg) (pick (eqb b 0x08) (SameValue reg) (DefCfaRegister reg)))
-
+-- the row of an opcode with a register and an offset
 unfoldable pub pair_row : ℕ → ℕ → ℤ → Row
 pair_row b reg z = pick (eqb b 0x05) (Offset reg z) (pick (eqb b 0x11) (Offset reg z) (DefCfa reg z))
 
@@ -49,8 +46,8 @@ pair_row b reg z = pick (eqb b 0x05) (Offset reg z) (pick (eqb b 0x11) (Offset r
 unfoldable pub step_at : ℕ → List ℕ → Position → Option (Operation × Position)
 step_at n s p = read_from p true (length s) (one (read_little n (drop p.at s)) Step)
 
-unfoldable pub register_row_at : ℕ → List ℕ → Position → Option (Operation × Position)
-register_row_at b s p = read_from p (numbers_short (unsigned ∷ []) (drop p.at s)) (length s) (one (read_register (drop p.at s)) λ reg. Does (register_row b reg))
+unfoldable pub register_row_at : (ℕ → Row) → List ℕ → Position → Option (Operation × Position)
+register_row_at of s p = read_from p (numbers_short (unsigned ∷ []) (drop p.at s)) (length s) (one (read_register (drop p.at s)) λ reg. Does (of reg))
 
 unfoldable pub offset_row_at : ℕ → ℕ → List ℕ → Position → Option (Operation × Position)
 offset_row_at w b s p = read_from p (numbers_short (operand_number b ∷ []) (drop p.at s)) (length s) (one (read_operand w b (drop p.at s)) λ z. Does (DefCfaOffset z))

@@ -20,6 +20,21 @@ impl Position {
     };
 }
 
+// A place with nothing read in front of it.
+impl From<usize> for Position {
+    ghost use Rattle.std.specs.Prelude.{◌≡◌};
+    ghost use Rattle.operations.specs.Positions.{from};
+
+    ghost from_gives = { λ p at. at ≡ from p };
+
+    fn from(at: usize) -> Position {
+        Position {
+            at,
+            ..Position::START
+        }
+    }
+}
+
 // A LEB number's last byte, the count of the groups before it, the scale that they stand below, what they make, and the place past the number.
 #[derive(Clone, Copy)]
 struct Groups {
@@ -31,6 +46,8 @@ struct Groups {
 }
 
 // The bytes of a LEB number: ten at most, and the last is below 128.
+// Kept: by place. Over `s.get(at..)?.iter().enumerate()` a place past the end would be one more exit, and the place past the number the
+// sum `at + k + 1`.
 fn last_byte(s: &[u8], at: usize) -> Option<Groups>
     ensures { GroupsAt s.now at result }
 {
@@ -129,16 +146,9 @@ pub fn read_le(s: &[u8], at: Position, n: usize) -> Option<(u64, Position)>
     ensures { result ≡ little_at n s.now at }
 {
     let from = at.at;
-    let shortest = at.shortest;
     if s.len() < from {
         if n == 0 {
-            return Some((
-                0,
-                Position {
-                    at: s.len(),
-                    shortest,
-                },
-            ));
+            return Some((0, Position { at: s.len(), ..at }));
         }
         return None;
     }
@@ -146,15 +156,11 @@ pub fn read_le(s: &[u8], at: Position, n: usize) -> Option<(u64, Position)>
         return None;
     }
     let mut acc = 0u64;
+    // Kept: from the last byte to the first. In a `fold` over the bytes the bound of the product is a clause of the closure, by how many bytes came
+    // before; `from_le_bytes` takes arrays of one size, and n is any number to 8.
     for i in (0..n).rev() {
         let b = u64::from(s[from + i]);
         acc = acc * 256 + b;
     }
-    Some((
-        acc,
-        Position {
-            at: from + n,
-            shortest,
-        },
-    ))
+    Some((acc, Position { at: from + n, ..at }))
 }

@@ -2,10 +2,11 @@
 // make.
 #![tactic(auto)]
 
-ghost use Rattle.std.specs.Prelude.{◌≡◌, ◌*◌, ◌≤◌, ◌<◌, length, pos};
+ghost use Rattle.std.specs.Prelude.{ℕ, ◌≡◌, ◌*◌, ◌≤◌, ◌<◌, length, pos};
 ghost use Rattle.format.specs.Rows.{unfactor};
+ghost use Rattle.format.specs.declared.Row.{Row};
 ghost use Rattle.operations.specs.Positions.{operation_at};
-ghost use Rattle.operations.specs.Reads.{register_at, plain_at, factored_at, signed_at, held, operand_at, register_row, pair_row, step_at, register_row_at, offset_row_at, pair_row_at, in_register_at, saved_at, extended_at};
+ghost use Rattle.operations.specs.Reads.{register_at, plain_at, factored_at, signed_at, held, operand_at, pair_row, step_at, register_row_at, offset_row_at, pair_row_at, in_register_at, saved_at, extended_at};
 
 use crate::fields::{Position, read_le, read_sleb, read_uleb};
 use format::{Operation, Row};
@@ -18,50 +19,11 @@ pub mod fields;
 struct Operations<'a> {
     bytes: &'a [u8],
     word: u64,
-    ghost factored: { 0 < word },
-}
-
-// ---- an operand read
-
-// An offset v words below the frame address, where 64 bits hold it.
-fn words_below(word: u64, v: u64, past: Position) -> Option<(i64, Position)>
-    requires { 0 < word }
-    ensures { result ≡ held (unfactor word (pos v)) past }
-{
-    if v == 0 {
-        return Some((0, past));
-    }
-    if 9223372036854775808 / word < v {
-        return None;
-    }
-    Some((-1 - ((v * word - 1) as i64), past))
-}
-
-// An offset m words above it.
-fn words_above(word: u64, m: u64, past: Position) -> Option<(i64, Position)>
-    requires { 0 < word }
-    ensures { result ≡ held (pos (m * word)) past }
-{
-    if 9223372036854775807 / word < m {
-        return None;
-    }
-    Some(((m * word) as i64, past))
 }
 
 // ---- an operation read
 
-// The row of opcode b with a register, and with a register and an offset.
-fn register_row(b: u8, reg: u16) -> Row
-    ensures { result ≡ register_row b reg }
-{
-    match b {
-        opcodes::DW_CFA_RESTORE_EXTENDED => Row::Restore(reg),
-        opcodes::DW_CFA_UNDEFINED => Row::Undefined(reg),
-        opcodes::DW_CFA_SAME_VALUE => Row::SameValue(reg),
-        _ => Row::DefCfaRegister(reg),
-    }
-}
-
+// The row of opcode b with a register and an offset.
 fn pair_row(b: u8, reg: u16, z: i64) -> Row
     ensures { result ≡ pair_row b reg z }
 {
@@ -78,10 +40,7 @@ impl Operations<'_> {
         ensures { result ≡ register_at self.now.bytes.now at }
     {
         let (v, past) = read_uleb(self.bytes, at)?;
-        if v <= 0xffff {
-            return Some((v as u16, past));
-        }
-        None
+        Some((u16::try_from(v).ok()?, past))
     }
 
     // An offset as it stands.
@@ -89,10 +48,23 @@ impl Operations<'_> {
         ensures { result ≡ plain_at self.now.bytes.now at }
     {
         let (v, past) = read_uleb(self.bytes, at)?;
-        if v < 9223372036854775808 {
-            return Some((v as i64, past));
-        }
-        None
+        Some((i64::try_from(v).ok()?, past))
+    }
+
+    // An offset v words below the frame address, where 64 bits hold it.
+    fn words_below(&self, v: u64, past: Position) -> Option<(i64, Position)>
+        ensures { result ≡ held (unfactor self.now.word (pos v)) past }
+    {
+        let n = v.checked_mul(self.word)?;
+        Some((0i64.checked_sub_unsigned(n)?, past))
+    }
+
+    // An offset m words above it.
+    fn words_above(&self, m: u64, past: Position) -> Option<(i64, Position)>
+        ensures { result ≡ held (pos (m * self.now.word)) past }
+    {
+        let n = m.checked_mul(self.word)?;
+        Some((i64::try_from(n).ok()?, past))
     }
 
     // A factored offset, unsigned.
@@ -100,7 +72,7 @@ impl Operations<'_> {
         ensures { result ≡ factored_at self.now.word self.now.bytes.now at }
     {
         let (v, past) = read_uleb(self.bytes, at)?;
-        words_below(self.word, v, past)
+        self.words_below(v, past)
     }
 
     // A factored offset, signed.
@@ -109,13 +81,15 @@ impl Operations<'_> {
     {
         let (z, past) = read_sleb(self.bytes, at)?;
         if z < 0 {
-            return words_above(self.word, rows::size(z), past);
+            return self.words_above(z.unsigned_abs(), past);
         }
-        words_below(self.word, z as u64, past)
+        self.words_below(z.unsigned_abs(), past)
     }
 
     // The offset behind opcode b.
-    // Kept: a position and an opcode, here and below, are two numbers of one call; a struct of them would be made for it alone.
+    // Kept: a position and an opcode go together to four methods. `Operations` has what is the same in all calls; in a struct with the opcode the
+    // position would be taken out again where it is handed on alone, in `operand_at`, `extended_at` and `pair_row_at`, which then makes a second struct
+    // for the position of the offset.
     fn operand_at(&self, at: Position, b: u8) -> Option<(i64, Position)>
         ensures { result ≡ operand_at self.now.word b self.now.bytes.now at }
     {
@@ -136,12 +110,17 @@ impl Operations<'_> {
         Some((Operation::Step(v), past))
     }
 
-    // Opcode b with a register.
-    fn register_row_at(&self, at: Position, b: u8) -> Option<(Operation, Position)>
-        ensures { result ≡ register_row_at b self.now.bytes.now at }
+    // The row that `made` makes of a register.
+    fn register_row_at<F: Fn(u16) -> Row>(
+        &self,
+        at: Position,
+        made: F,
+    ) -> Option<(Operation, Position)>
+        requires { (x : ℕ) → F.pre made x }
+        ensures { (of : ℕ → Row) → ((x : ℕ) (v : Row) → F.post made x v → v ≡ of x) → result ≡ register_row_at of self.now.bytes.now at }
     {
         let (reg, past) = self.register_at(at)?;
-        Some((Operation::Does(register_row(b, reg)), past))
+        Some((Operation::Does(made(reg)), past))
     }
 
     // Opcode b with an offset.
@@ -179,6 +158,8 @@ impl Operations<'_> {
     }
 
     // The operations whose opcode b holds no number, behind it.
+    // Kept: an opcode with an offset is matched once more behind it. With a reader of the offset passed as a function the contracts of
+    // offset_row_at and pair_row_at would say what it reads, its kind of number and how many bytes it takes at most.
     fn extended_at(&self, at: Position, b: u8) -> Option<(Operation, Position)>
         requires { at.at ≤ length self.now.bytes.now }
         ensures { result ≡ extended_at self.now.word b self.now.bytes.now at }
@@ -189,14 +170,17 @@ impl Operations<'_> {
             opcodes::DW_CFA_ADVANCE_LOC2 => self.step_at(at, 2),
             opcodes::DW_CFA_ADVANCE_LOC4 => self.step_at(at, 4),
             opcodes::DW_CFA_OFFSET_EXTENDED => self.pair_row_at(at, b),
-            opcodes::DW_CFA_RESTORE_EXTENDED => self.register_row_at(at, b),
-            opcodes::DW_CFA_UNDEFINED => self.register_row_at(at, b),
-            opcodes::DW_CFA_SAME_VALUE => self.register_row_at(at, b),
+            opcodes::DW_CFA_RESTORE_EXTENDED => self.register_row_at(at, |reg| Row::Restore(reg)),
+            opcodes::DW_CFA_UNDEFINED => self.register_row_at(at, |reg| Row::Undefined(reg)),
+            opcodes::DW_CFA_SAME_VALUE => self.register_row_at(at, |reg| Row::SameValue(reg)),
             opcodes::DW_CFA_REGISTER => self.in_register_at(at),
             opcodes::DW_CFA_REMEMBER_STATE => Some((Operation::Does(Row::RememberState), at)),
             opcodes::DW_CFA_RESTORE_STATE => Some((Operation::Does(Row::RestoreState), at)),
             opcodes::DW_CFA_DEF_CFA => self.pair_row_at(at, b),
-            opcodes::DW_CFA_DEF_CFA_REGISTER => self.register_row_at(at, b),
+            opcodes::DW_CFA_DEF_CFA_REGISTER => self.register_row_at(
+                at,
+                |reg| Row::DefCfaRegister(reg),
+            ),
             opcodes::DW_CFA_DEF_CFA_OFFSET => self.offset_row_at(at, b),
             opcodes::DW_CFA_OFFSET_EXTENDED_SF => self.pair_row_at(at, b),
             opcodes::DW_CFA_DEF_CFA_SF => self.pair_row_at(at, b),
@@ -221,10 +205,7 @@ pub fn operation(s: &[u8], at: Position, word: u64) -> Option<(Operation, Positi
     }
     let x = Operations { bytes: s, word };
     let b = s[from];
-    let behind = Position {
-        at: from + 1,
-        shortest: at.shortest,
-    };
+    let behind = Position { at: from + 1, ..at };
     if b < opcodes::DW_CFA_ADVANCE_LOC {
         return x.extended_at(behind, b);
     }

@@ -1,6 +1,6 @@
 -- Two functions that add no leading rows to those of a call, and the owner of the function in front.
 use mathlib.Core.Path.{◌≡◌, refl, sym, ◌∙◌}
-use Prim.Native.Nat.{ℕ, ◌-◌, ◌≤◌, ◌<◌}
+use Prim.Native.Nat.{ℕ, ◌-◌, ◌<◌}
 use native.Mathlib.Omega.{arith}
 use mathlib.Core.Bool.{Bool, true, false, not, beq}
 use mathlib.Core.List.{List, [], ◌∷◌}
@@ -71,10 +71,10 @@ module _ {x : Inputs} {owners : List ℕ} {k : ℕ} (w : Owned x k owners) (z : 
   last_is : get_or owners (k - 1) 0 ≡ owner x (k - 1)
   last_is = w.each_one (k - 1) (omega arith)
 
-  pub last_low : {o : ℕ} → o ≡ get_or owners (k - 1) 0 → o ≤ k
+  pub last_low : {o : ℕ} → o ≡ get_or owners (k - 1) 0 → o < k
   last_low d = omega (arith, d, last_is, owner_low x (k - 1))
 
   pub last_owns : {o : ℕ} → o ≡ get_or owners (k - 1) 0 → shares x k o ≡ true → o ≡ owner x k
   last_owns {o} d e =
       let f : owner x o ≡ o = rw (← (d ∙ last_is)) at (owner_owns x (k - 1)) in
-      owner_hit x k o (last_low d) f e
+      owner_hit x k o (omega (arith, last_low d)) f e

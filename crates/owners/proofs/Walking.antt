@@ -1,96 +1,93 @@
 -- The search along a chain: from one owner to the one behind it, until one has the key or function 0 was the last.
-use mathlib.Core.Path.{◌≡◌, ap, ◌∙◌}
-use Prim.Native.Nat.{ℕ, zero, suc, ◌+◌, ◌-◌, ◌≤◌, ◌<◌}
+use mathlib.Core.Path.{◌≡◌, refl, sym}
+use Prim.Native.Nat.{ℕ, zero, suc, ◌+◌, ◌≤◌, ◌<◌}
 use native.Mathlib.Omega.{arith}
 use mathlib.Core.Bool.{true, false}
 use mathlib.Core.List.{List}
+use borrow.Author.Tests.{lt-ltb}
+use lib.Dec.{ltb}
 use lib.ListN.{get_or}
+use Rattle.std.specs.Prelude.{Option, Some, None, IfSome}
+use Rattle.std.specs.Bool.{then_some}
 use Rattle.format.proofs.Choice.{if-eq, if-ne, either}
 use Rattle.header_keys.specs.Inputs.{Inputs}
 use Rattle.owners.specs.Owners.{owner}
-use Rattle.owners.specs.Chains.{slot_at, last_in, held_in, last_held, behind_in, Chained}
+use Rattle.owners.specs.Chains.{slot_at, held_in, last_held, behind_in, Chained}
 use Rattle.owners.proofs.Finding.{shares}
 use Rattle.owners.proofs.Firsts.{last_below, owner_hit, owner_none, held_owns, held_slot, none_between}
 
+-- how many functions are left to look at, at most
+abbrev pub left : Option ℕ → ℕ
+left None = 0
+left (Some j) = j + 1
+
+begun : (P : Option ℕ → Type 0) (k first : ℕ) → (0 < k → P (Some first)) → (k ≡ 0 → P None) → P (then_some (ltb 0 k) first)
+begun P zero first f g = g refl
+begun P (suc k) first f g = rw (lt-ltb 0 (suc k) (omega arith)) (f (omega arith))
+
 module _ (x : Inputs) where
-  -- from number `next` on, plus 1, no owner has the key of function k
-  pub record Walking (size k next : ℕ) (links : List ℕ) : Type 0 where
-    pub high : next ≤ k + 1
-    pub below : 1 < next → next ≤ k
-    pub owns : (j : ℕ) → next ≡ j + 1 → owner x j ≡ j
-    pub slot : (j : ℕ) → next ≡ j + 1 → 0 < j → slot_at x size j ≡ slot_at x size k
-    pub none : (j : ℕ) → next ≤ j → j < k → owner x j ≡ j → shares x k j ≡ false
+  -- `next` is an owner of function k's slot in front of it, and from it on no owner has the key of function k
+  pub record Walking (size k : ℕ) (next : Option ℕ) (links : List ℕ) : Type 0 where
+    pub here : IfSome next (λ j. (j < k) × (owner x j ≡ j) × (0 < j → slot_at x size j ≡ slot_at x size k))
+    pub none : (j : ℕ) → left next ≤ j → j < k → owner x j ≡ j → shares x k j ≡ false
 
   -- at the last owner of function k's slot in front of function i
-  at_last : (size k i next : ℕ) (links : List ℕ) → i ≤ k → next ≡ last_held x size (slot_at x size k) i + 1
-      → ((j : ℕ) → i ≤ j → j < k → owner x j ≡ j → shares x k j ≡ false) → last_held x size (slot_at x size k) i ≤ i → (0 < i → last_held x size (slot_at x size k) i < i) → Walking size k next links
-  at_last size k i next links l e f low strict = record {
-    high = omega arith;
-    below = λ z. omega (arith, strict (omega arith));
-    owns = λ j q. let d : last_held x size (slot_at x size k) i ≡ j = omega arith in rw d at (held_owns x size (slot_at x size k) i);
-    slot = λ j q z.
-        let d : last_held x size (slot_at x size k) i ≡ j = omega arith in
-        rw d at (held_slot x size (slot_at x size k) i (omega arith));
-    none = λ j q h o.
-        either i j (λ p. f j p h o) (λ p. none_between x size k i j (omega arith) p o);
-  }
-
-  last_near : (size h k : ℕ) → last_held x size h k ≤ k
-  unfolding last_in
-  last_near size h zero = omega arith
-  last_near size h (suc k) = let l : last_held x size h (suc k) < suc k = last_below (held_in x size h) (suc k) (omega arith) in omega arith
+  at_last : (size k i j : ℕ) (links : List ℕ) → 0 < i → i ≤ k → j ≡ last_held x size (slot_at x size k) i
+      → ((j : ℕ) → i ≤ j → j < k → owner x j ≡ j → shares x k j ≡ false) → Walking size k (Some j) links
+  at_last size k i j links z l e f =
+      let low : last_held x size (slot_at x size k) i < i = last_below (held_in x size (slot_at x size k)) i z in
+      record {
+        here = (
+          omega (arith, e, low),
+          rw e (held_owns x size (slot_at x size k) i),
+          rw e (held_slot x size (slot_at x size k) i),
+        );
+        none = λ j' q h o.
+            either i j' (λ p. f j' p h o) (λ p. none_between x size k i j' (omega (arith, e, q)) p o);
+      }
 
 module _ {x : Inputs} {size k first : ℕ} {links : List ℕ} (c : Chained x size k first links) where
-  pub first_low : first ≤ k
-  first_low = omega (arith, c.from, last_near x size (slot_at x size k) k)
+  pub start : Walking x size k (then_some (ltb 0 k) first) links
+  start =
+      begun (λ o. Walking x size k o links) k first (λ z. at_last x size k k first links z (omega arith) c.from (λ j p h o. absurd (omega arith)))
+      (λ z. record { here = tt; none = λ j q h o. absurd (omega arith) })
 
-  pub start : Walking x size k (first + 1) links
-  start = at_last x size k k (first + 1) links (omega arith) (ap (λ (n : ℕ). n + 1) c.from) (λ j p h o. absurd (omega arith)) (last_near x size (slot_at x size k) k) (last_below (held_in x size (slot_at x size k)) k)
+  module _ {j : ℕ} {next : Option ℕ} (w : Walking x size k next links) (s : next ≡ Some j) where
+    at_here : (j < k) × (owner x j ≡ j) × (0 < j → slot_at x size j ≡ slot_at x size k)
+    at_here = rw s at w.here
 
-  module _ {next : ℕ} (w : Walking x size k next links) (h : 0 < next) where
     -- the owner that is looked at
-    pub near : next - 1 ≤ k
-    near = omega (arith, w.high)
+    pub near : j < k
+    near = at_here.0
 
-    owns_here : owner x (next - 1) ≡ next - 1
-    owns_here = w.owns (next - 1) (omega arith)
-
-    pub found : shares x k (next - 1) ≡ true → next - 1 ≡ owner x k
-    found e = owner_hit x k (next - 1) near owns_here e
+    pub found : shares x k j ≡ true → (j ≡ owner x k) × (j < k)
+    found e = (owner_hit x k j (omega (arith, near)) at_here.1 e, near)
 
     -- the one behind it comes next
-    behind_last : 0 < next - 1 → behind_in links (next - 1) ≡ last_held x size (slot_at x size k) (next - 1) + 1
+    behind_none : j ≡ 0 → behind_in links j ≡ None
     unfolding behind_in
-    behind_last z =
-        let e : slot_at x size (next - 1) ≡ slot_at x size k = w.slot (next - 1) (omega arith) z in
-        if-ne (next - 1) 0 0 (get_or links (next - 1) 0 + 1) (λ q. omega arith)
-        ∙ ap (λ (n : ℕ). n + 1) (rw e at (c.linked.each_one (next - 1) (omega (arith, w.below (omega arith))) owns_here))
+    behind_none z = if-eq j 0 None (Some (get_or links j 0)) z
 
-    behind_none : next - 1 ≡ 0 → behind_in links (next - 1) ≡ 0
+    behind_some : 0 < j → behind_in links j ≡ Some (get_or links j 0)
     unfolding behind_in
-    behind_none z = if-eq (next - 1) 0 0 (get_or links (next - 1) 0 + 1) z
+    behind_some z = if-ne j 0 None (Some (get_or links j 0)) (λ q. omega arith)
 
-    pub lower : behind_in links (next - 1) < next
+    behind_last : 0 < j → get_or links j 0 ≡ last_held x size (slot_at x size k) j
+    behind_last z = rw (at_here.2 z) at (c.linked.each_one j near at_here.1)
+
+    pub lower : left (behind_in links j) < left next
     lower =
-        either (next - 1) 0
-        (λ z. let e : behind_in links (next - 1) ≡ 0 = behind_none (omega arith) in omega arith)
-        (λ z. let l : last_held x size (slot_at x size k) (next - 1) < next - 1 = last_below (held_in x size (slot_at x size k)) (next - 1) z in omega (arith, behind_last z))
+        rw s (either j 0
+        (λ z. rw (behind_none (omega arith)) (omega arith))
+        (λ z. rw (behind_some z) (let l : last_held x size (slot_at x size k) j < j = last_below (held_in x size (slot_at x size k)) j z in omega (arith, behind_last z))))
 
-    pub turn : shares x k (next - 1) ≡ false → Walking x size k (behind_in links (next - 1)) links
+    pub turn : shares x k j ≡ false → Walking x size k (behind_in links j) links
     turn e =
-        let f : (j : ℕ) → next - 1 ≤ j → j < k → owner x j ≡ j → shares x k j ≡ false =
-        λ j l g o. either j (next - 1) (λ p. let d : next - 1 ≡ j = omega arith in rw d at e) (λ p. w.none j (omega arith) g o) in
-        either (next - 1) 0
-        (λ z.
-        let d : behind_in links (next - 1) ≡ 0 = behind_none (omega arith) in
-        record {
-          high = omega arith;
-          below = λ y. absurd (omega arith);
-          owns = λ j q. absurd (omega arith);
-          slot = λ j q y. absurd (omega arith);
-          none = λ j q g o. f j (omega arith) g o;
-        })
-        (λ z. at_last x size k (next - 1) (behind_in links (next - 1)) links near (behind_last z) f (last_near x size (slot_at x size k) (next - 1)) (last_below (held_in x size (slot_at x size k)) (next - 1)))
+        let past : (i : ℕ) → j ≤ i → i < k → owner x i ≡ i → shares x k i ≡ false =
+        λ i l g o. either i j (λ p. let d : j ≡ i = omega arith in rw d at e) (λ p. w.none i (rw s (omega arith)) g o) in
+        either j 0
+        (λ z. rw (behind_none (omega arith)) (record { here = tt; none = λ i q g o. past i (omega arith) g o }))
+        (λ z. rw (behind_some z) (at_last x size k j (get_or links j 0) links z (omega (arith, near)) (behind_last z) past))
 
-  pub ended : {next : ℕ} → Walking x size k next links → next ≤ 0 → k ≡ owner x k
-  ended w h = owner_none x k (λ j l o. w.none j (omega arith) l o)
+  pub ended : {next : Option ℕ} → Walking x size k next links → next ≡ None → owner x k ≡ k
+  ended w s = sym (owner_none x k (λ j l o. w.none j (rw s (omega arith)) l o))

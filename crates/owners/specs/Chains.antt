@@ -1,5 +1,5 @@
 -- Owners of headers, chained by digests of their keys: those of one slot, from the last to the first, and function 0 at the end of each chain.
-use Rattle.std.specs.Prelude.{◌≡◌, ℕ, zero, suc, ◌+◌, ◌*◌, ◌%◌, ◌^◌, ◌≤◌, ◌<◌, Bool, ◌&&◌, List, [], ◌∷◌, eqb, nat_abs, length, get_or}
+use Rattle.std.specs.Prelude.{◌≡◌, ℕ, zero, suc, ◌+◌, ◌*◌, ◌%◌, ◌^◌, ◌≤◌, ◌<◌, Bool, ◌&&◌, List, [], ◌∷◌, eqb, nat_abs, length, get_or, Option, Some, None}
 use Rattle.format.specs.Prelude.{pick}
 use Rattle.format.specs.declared.Row.{Row}
 use Rattle.format.specs.Rows.{kind_of, reg_of, offset_of}
@@ -48,9 +48,9 @@ held_in x size h j = eqb (owner x j) j && eqb (slot_at x size j) h
 abbrev pub last_held : Inputs → (size h k : ℕ) → ℕ
 last_held x size h k = last_in (held_in x size h) k
 
--- the one behind function j in its chain, plus 1; 0 behind function 0
-unfoldable pub behind_in : (links : List ℕ) → (j : ℕ) → ℕ
-behind_in links j = pick (eqb j 0) 0 (get_or links j 0 + 1)
+-- the one behind function j in its chain; there is none behind function 0
+unfoldable pub behind_in : (links : List ℕ) → (j : ℕ) → Option ℕ
+behind_in links j = pick (eqb j 0) None (Some (get_or links j 0))
 
 -- `links` has the one behind each function in front of k that has a header of its own
 pub record Linked (x : Inputs) (size k : ℕ) (links : List ℕ) : Type 0 where

@@ -1,19 +1,19 @@
 // Header owners: the first earlier function whose header a function can use. Ported from rucc-asm/src/unwind.rs (choose) of tamnd/rucc, changed: see NOTICE.
 #![tactic(auto)]
 
-ghost use Rattle.std.specs.Prelude.{◌≡◌, true, ◌&&◌, ◌+◌, ◌*◌, ◌^◌, ◌≤◌, ◌<◌, eqb, length};
+ghost use Rattle.std.specs.Prelude.{◌≡◌, true, ◌&&◌, ◌+◌, ◌*◌, ◌^◌, ◌≤◌, ◌<◌, length, IfSome};
 ghost use Rattle.std.specs.Bool.{beq};
-ghost use Rattle.format.specs.Headers.{same_encoding, same_kind, same_key};
+ghost use Rattle.format.specs.Headers.{same_kind, same_key};
 ghost use Rattle.header_keys.specs.Functions.{key_in};
 ghost use Rattle.header_keys.specs.Inputs.{inputs_of, ListedTo, RowsIn};
-ghost use Rattle.header_keys.specs.Kinds.{lsda_of, kind_in};
-ghost use Rattle.owners.specs.Owners.{key_at, leading_of, same_at, owner};
+ghost use Rattle.header_keys.specs.Kinds.{kind_in};
+ghost use Rattle.owners.specs.Owners.{key_at, leading_of, same_at, owner, key_meant, EarlierOwner};
 ghost use Rattle.owners.specs.Chains.{row_number, mixed, kind_number, digest_of, slot_at, behind_in, Chained};
 ghost use Rattle.owners.specs.Lent.{SameChains, LongFor, EmptyFor, FoundIn, OwnedIn};
 
 use format::Row;
 use header_keys::{Input, Kind, kind_of};
-use lists::{Extent, Lsda, Personality};
+use lists::Extent;
 
 // The lists that the functions' owners are found in: the last owner of each slot, the one behind each owner, and the owners.
 // Kept: three lists. The first has an entry for each slot, the others one for each function, and these two are not read together: a chain is followed
@@ -27,49 +27,54 @@ pub struct Chains<'a> {
 
 // ---- kinds of header
 
-// Two LSDAs have one encoding, or there is neither.
-#[tactic(auto, unfolding(header_keys::specs::Kinds::lsda_of, format::specs::Headers::same_encoding))]
-fn same_lsda(a: Option<Lsda>, b: Option<Lsda>) -> bool
-    ensures { result ≡ same_encoding (lsda_of a) (lsda_of b) }
+// What a function's kind of header is told from others by: a named personality by its encoding, its symbol and the LSDA's encoding, if
+// there is an LSDA.
+#[derive(Clone, Copy, PartialEq, Eq)]
+enum KindKey {
+    Plain,
+    Personal,
+    Named {
+        encoding: u64,
+        routine: u64,
+        lsda: Option<u64>,
+    },
+}
+
+// Kept: no `From`, which would be an impl with a ghost `from_gives` around these lines, for the calls in one function.
+#[tactic(auto, unfolding(header_keys::specs::Kinds::kind_meant, header_keys::specs::Kinds::lsda_of, crate::specs::Owners::key_meant, crate::specs::Owners::encoding_meant))]
+fn kind_key(e: &Extent) -> KindKey
+    ensures { key_meant result ≡ kind_in e.now }
 {
-    match (a, b) {
-        (None, None) => true,
-        (Some(a), Some(b)) => a.encoding == b.encoding,
-        _ => false,
+    match kind_of(e) {
+        Kind::Plain => KindKey::Plain,
+        Kind::Personal => KindKey::Personal,
+        Kind::Named(p) => KindKey::Named {
+            encoding: p.encoding,
+            routine: p.routine,
+            lsda: p.lsda.map(|l| l.encoding),
+        },
     }
 }
 
-// Two named personalities make one kind: by their encodings, their symbols and the LSDA's encoding.
-fn same_named(a: &Personality, b: &Personality) -> bool
-    ensures { result ≡ eqb a.now.encoding b.now.encoding && eqb a.now.routine b.now.routine && same_encoding (lsda_of a.now.lsda) (lsda_of b.now.lsda) }
+// Two kinds of header are one.
+#[tactic(auto, unfolding(crate::specs::Owners::key_meant, crate::specs::Owners::encoding_meant, format::specs::Headers::same_kind, format::specs::Headers::same_encoding))]
+fn same_kind(a: KindKey, b: KindKey) -> bool
+    ensures { result ≡ same_kind (key_meant a) (key_meant b) }
 {
-    a.encoding == b.encoding && a.routine == b.routine && same_lsda(a.lsda, b.lsda)
-}
-
-// Two functions ask for one kind of header.
-// Kept: here and in the next the records are passed by value. By reference was tried, and the writer was slower.
-#[tactic(auto, unfolding(header_keys::specs::Kinds::kind_meant, format::specs::Headers::same_kind))]
-fn same_kind(a: Extent, b: Extent) -> bool
-    ensures { result ≡ same_kind (kind_in a) (kind_in b) }
-{
-    match (kind_of(&a), kind_of(&b)) {
-        (Kind::Plain, Kind::Plain) => true,
-        (Kind::Personal, Kind::Personal) => true,
-        (Kind::Named(p), Kind::Named(q)) => same_named(&p, &q),
-        _ => false,
-    }
+    a == b
 }
 
 // Two functions ask for one kind of header and agree in the signal mark.
-fn same_kind_and_signal(a: Extent, b: Extent) -> bool
-    ensures { result ≡ same_kind (kind_in a) (kind_in b) && beq a.signal b.signal }
+fn same_kind_and_signal(a: &Extent, b: &Extent) -> bool
+    ensures { result ≡ same_kind (kind_in a.now) (kind_in b.now) && beq a.now.signal b.now.signal }
 {
-    same_kind(a, b) && a.signal == b.signal
+    same_kind(kind_key(a), kind_key(b)) && a.signal == b.signal
 }
 
 // ---- leading rows
 
 // Leading row i of two functions is the same.
+// Kept: that a record's rows can be read is asked here and in `digest` alone; what calls them has it of function k by its number.
 #[tactic(auto, unfolding(crate::specs::Owners::same_at, format::specs::Rows::same_row, format::specs::Rows::kind_of, format::specs::Rows::reg_of, format::specs::Rows::offset_of, format::specs::Rows::same_offset))]
 fn same_leading(x: &Input, a: Extent, b: Extent, i: usize) -> bool
     requires { RowsIn (inputs_of x.now) a × RowsIn (inputs_of x.now) b × (i < length (leading_of (inputs_of x.now) a)) × (i < length (leading_of (inputs_of x.now) b)) }
@@ -125,6 +130,9 @@ fn digest(x: &Input, e: Extent) -> u64
 }
 
 // The slot of function k's key among `size`.
+// Kept: that the first k + 1 functions can be read is asked here and in what follows, and no struct holds it. Public `find_owner` takes x and
+// k, so that it would make the struct for each k; and the contracts of `choose`, `surely_shares`, `inherited` and `seek`, which ask this
+// once, name x twice more and k two or three times, which would be the longer names of the struct's parts.
 fn slot(x: &Input, k: usize, size: usize) -> usize
     requires { ListedTo (inputs_of x.now) (k + 1) × (0 < size) }
     ensures { (result ≡ slot_at (inputs_of x.now) size k) × (result < size) }
@@ -134,32 +142,32 @@ fn slot(x: &Input, k: usize, size: usize) -> usize
 
 // ---- functions
 
-// The function behind function j in its chain, plus 1. Function 0 ends every chain.
+// The function behind function j in its chain. Function 0 ends every chain.
 #[tactic(auto, unfolding(crate::specs::Chains::behind_in, format::specs::Prelude::pick))]
-fn behind(links: &[u16], j: usize) -> usize
+fn behind(links: &[u16], j: usize) -> Option<usize>
     requires { j < length links.now }
     ensures { result ≡ behind_in links.now j }
 {
     if j == 0 {
-        return 0;
+        return None;
     }
-    usize::from(links[j]) + 1
+    Some(usize::from(links[j]))
 }
 
-// The first earlier function whose header function k can use, sought in the chain of its slot, which starts at `first`; k where
-// there is none.
-fn choose(x: &Input, k: usize, first: usize, chains: &Chains) -> usize
+// The first earlier function whose header function k can use, sought in the chain of its slot, which starts at `first`.
+// Kept: loops with labels over functions and over leading rows, left by their label when it is decided, are a form that document 01 names
+// (docs/DECISIONS.md). As `find` over the chain and `all` over the rows neither loop would have its label.
+fn choose(x: &Input, k: usize, first: usize, chains: &Chains) -> Option<usize>
     requires { ListedTo (inputs_of x.now) (k + 1) × Chained (inputs_of x.now) (length chains.now.heads.now) k first chains.now.links.now }
-    ensures { result ≡ owner (inputs_of x.now) k }
+    ensures { EarlierOwner (inputs_of x.now) k result }
 {
     let own = x.function(k);
     let count = header_keys::leading_count(&x.machine, &own, x.lists.rows);
-    let mut next = first + 1;
-    'functions: while 0 < next {
-        let j = next - 1;
+    let mut next = (0 < k).then_some(first);
+    'functions: while let Some(j) = next {
         next = behind(chains.links, j);
         let other = x.function(j);
-        if !same_kind_and_signal(other, own) {
+        if !same_kind_and_signal(&other, &own) {
             continue 'functions;
         }
         if header_keys::leading_count(&x.machine, &other, x.lists.rows) != count {
@@ -170,9 +178,9 @@ fn choose(x: &Input, k: usize, first: usize, chains: &Chains) -> usize
                 continue 'functions;
             }
         }
-        return j;
+        return Some(j);
     }
-    k
+    None
 }
 
 // A yes says that function k can use function j's header, where neither has leading rows beside those that a call implies. A no
@@ -183,7 +191,7 @@ fn surely_shares(x: &Input, j: usize, k: usize) -> bool
 {
     let a = x.function(j);
     let b = x.function(k);
-    if !same_kind_and_signal(a, b) {
+    if !same_kind_and_signal(&a, &b) {
         return false;
     }
     if a.simple != b.simple {
@@ -195,19 +203,19 @@ fn surely_shares(x: &Input, j: usize, k: usize) -> bool
     header_keys::ahead(&b, x.lists.rows) == 0
 }
 
-// The owner of the function in front of function k, where it is surely function k's as well; or k.
-fn inherited(x: &Input, k: usize, chains: &Chains) -> usize
+// The owner of the function in front of function k, where it is surely function k's as well. None says nothing.
+fn inherited(x: &Input, k: usize, chains: &Chains) -> Option<usize>
     requires { ListedTo (inputs_of x.now) (k + 1) × OwnedIn (inputs_of x.now) k chains.now }
-    ensures { ((result ≡ k → ⊥) → result ≡ owner (inputs_of x.now) k) × (result ≤ k) }
+    ensures { IfSome result (λ o. (o ≡ owner (inputs_of x.now) k) × (o < k)) }
 {
     if k == 0 {
-        return k;
+        return None;
     }
     let o = usize::from(chains.owners[k - 1]);
     if surely_shares(x, o, k) {
-        return o;
+        return Some(o);
     }
-    k
+    None
 }
 
 // Function k's owner, sought in its chain and stored.
@@ -218,11 +226,11 @@ fn seek(x: &Input, k: usize, chains: &mut Chains)
     let h = slot(x, k, chains.heads.len());
     let first = chains.heads[h];
     chains.links[k] = first;
-    let o = choose(x, k, usize::from(first), chains);
-    chains.owners[k] = o as u16;
-    if o != k {
+    if let Some(o) = choose(x, k, usize::from(first), chains) {
+        chains.owners[k] = o as u16;
         return;
     }
+    chains.owners[k] = k as u16;
     chains.heads[h] = k as u16;
 }
 
@@ -231,9 +239,8 @@ pub fn find_owner(x: &Input, k: usize, chains: &mut Chains)
     requires { ListedTo (inputs_of x.now) (k + 1) × LongFor (k + 1) chains.old × FoundIn (inputs_of x.now) (length chains.old.heads.now) k chains.old }
     ensures { FoundIn (inputs_of x.now) (length chains.old.heads.now) (k + 1) chains.new × SameChains chains.old chains.new }
 {
-    let i = inherited(x, k, chains);
-    if i != k {
-        chains.owners[k] = i as u16;
+    if let Some(owner) = inherited(x, k, chains) {
+        chains.owners[k] = owner as u16;
         return;
     }
     seek(x, k, chains);

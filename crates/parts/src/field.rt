@@ -5,16 +5,16 @@ ghost use Rattle.parts.specs.Faults.{field_number, fault_number};
 #[derive(Clone, Copy)]
 pub enum Field {
     // of a header
-    Version,
-    Letters,
-    CodeFactor,
-    DataFactor,
-    Return,
-    HeaderData,
+    Version = 1,
+    Letters = 2,
+    CodeFactor = 3,
+    DataFactor = 4,
+    Return = 5,
+    HeaderData = 6,
     // of a record
-    Function,
-    Length,
-    RecordData,
+    Function = 7,
+    Length = 8,
+    RecordData = 9,
 }
 
 impl Field {
@@ -22,17 +22,7 @@ impl Field {
     pub fn number(self) -> u64
         ensures { result ≡ field_number self }
     {
-        match self {
-            Field::Version => 1,
-            Field::Letters => 2,
-            Field::CodeFactor => 3,
-            Field::DataFactor => 4,
-            Field::Return => 5,
-            Field::HeaderData => 6,
-            Field::Function => 7,
-            Field::Length => 8,
-            Field::RecordData => 9,
-        }
+        self as u64
     }
 }
 
@@ -40,8 +30,5 @@ impl Field {
 pub fn fault(field: Option<Field>) -> u64
     ensures { result ≡ fault_number field }
 {
-    match field {
-        None => 0,
-        Some(field) => field.number(),
-    }
+    field.map_or(0, |field| field.number())
 }

@@ -15,7 +15,7 @@ use reader::fields::{Augmentation, Header};
 // What unwind_read_header answers.
 // Kept: a number beside the fields, which are 0 where it refuses, since C reads it.
 #[repr(C)]
-#[derive(Clone, Copy)]
+#[derive(Clone, Copy, Default)]
 pub struct HeaderRead {
     pub number: u64,
     pub field: u64,
@@ -35,97 +35,98 @@ fn refused(question: Question, at_fault: Option<Field>) -> HeaderRead
     HeaderRead {
         number: question.number(),
         field: field::fault(at_fault),
-        personality: 0,
-        lsda: 0,
-        signal: 0,
-        return_register: 0,
-        pointer: 0,
-        operations: 0,
-        end: 0,
+        ..HeaderRead::default()
     }
 }
 
-// From the augmentation data on, or the field at fault.
-fn rest(e: &Placed, at: Position, p: Augmentation, reg: u64) -> Result<HeaderRead, Field>
-    requires { at.at ≤ length e.now.body.bytes.now }
-    ensures { header_answer result ≡ header_numbers (e.now.base + length e.now.body.bytes.now) (header_rest e.now.body.layout.debug (letters_of p) e.now.body.layout.word reg (drop at.at e.now.body.bytes.now)) }
-{
-    let Some(
-        Header {
-            operations,
+impl Placed<'_> {
+    // From the augmentation data on, or the field at fault.
+    fn header_rest(&self, at: Position, p: Augmentation, reg: u64) -> Result<HeaderRead, Field>
+        requires { at.at ≤ length self.now.body.bytes.now }
+        ensures { header_answer result ≡ header_numbers (self.now.base + length self.now.body.bytes.now) (header_rest self.now.body.layout.debug (letters_of p) self.now.body.layout.word reg (drop at.at self.now.body.bytes.now)) }
+    {
+        let Some(
+            Header {
+                operations,
+                pointer,
+                signal,
+            },
+        ) = self.body.header_tail(at, p)
+        else {
+            return Err(Field::HeaderData);
+        };
+        let start = operations.at;
+        Ok(HeaderRead {
+            number: 0,
+            field: 0,
+            personality: u64::from(p.personality),
+            lsda: u64::from(p.lsda),
+            signal: u64::from(signal),
+            return_register: reg,
             pointer,
-            signal,
-        },
-    ) = reader::fields::header_tail(&e.body, at, p)
-    else {
-        return Err(Field::HeaderData);
-    };
-    let start = operations.at;
-    Ok(HeaderRead {
-        number: 0,
-        field: 0,
-        personality: u64::from(p.personality),
-        lsda: u64::from(p.lsda),
-        signal: u64::from(signal),
-        return_register: reg,
-        pointer,
-        operations: e.base + start as u64,
-        end: e.base + e.body.bytes.len() as u64,
-    })
+            operations: self.base + start as u64,
+            end: self.end(),
+        })
+    }
+
+    // From the code alignment factor on.
+    // Kept: beside the reader's `header_factors` and `parse_header`, which read these fields too. One function would answer, for this one alone, the return
+    // register, what the string announces and the field at fault, and would carry the mark of spelling, which is not asked here.
+    fn header_factors(&self, at: Position, p: Augmentation) -> Result<HeaderRead, Field>
+        ensures { header_answer result ≡ header_numbers (self.now.base + length self.now.body.bytes.now) (header_from self.now.body.layout.debug (letters_of p) self.now.body.layout.word (drop at.at self.now.body.bytes.now)) }
+    {
+        let body = self.body.bytes;
+        let Some((code, a)) = read_uleb(body, at) else {
+            return Err(Field::CodeFactor);
+        };
+        if code != 1 {
+            return Err(Field::CodeFactor);
+        }
+        let Some((z, b)) = read_sleb(body, a) else {
+            return Err(Field::DataFactor);
+        };
+        if !reader::fields::factor_ok(z, self.body.layout.word) {
+            return Err(Field::DataFactor);
+        }
+        let Some((reg, c)) = read_uleb(body, b) else {
+            return Err(Field::Return);
+        };
+        if 0xffff < reg {
+            return Err(Field::Return);
+        }
+        self.header_rest(c, p, reg)
+    }
+
+    // The fields in the bytes behind a header's length.
+    fn header_fields(&self) -> Result<HeaderRead, Field>
+        ensures { header_answer result ≡ header_numbers (self.now.base + length self.now.body.bytes.now) (header_parts self.now.body.layout.debug self.now.body.layout.word self.now.body.bytes.now) }
+    {
+        let body = self.body.bytes;
+        let Some((_, version)) = read_le(body, Position::START, 4) else {
+            return Err(Field::Version);
+        };
+        let from = version.at;
+        if body.len() <= from {
+            return Err(Field::Version);
+        }
+        if body[from] != 1 {
+            return Err(Field::Version);
+        }
+        let string = Position {
+            at: from + 1,
+            ..version
+        };
+        let Some((p, past)) = self.body.letters(string) else {
+            return Err(Field::Letters);
+        };
+        self.header_factors(past, p)
+    }
 }
 
-// From the code alignment factor on.
-fn factors(e: &Placed, at: Position, p: Augmentation) -> Result<HeaderRead, Field>
-    ensures { header_answer result ≡ header_numbers (e.now.base + length e.now.body.bytes.now) (header_from e.now.body.layout.debug (letters_of p) e.now.body.layout.word (drop at.at e.now.body.bytes.now)) }
-{
-    let body = e.body.bytes;
-    let Some((code, a)) = read_uleb(body, at) else {
-        return Err(Field::CodeFactor);
-    };
-    if code != 1 {
-        return Err(Field::CodeFactor);
-    }
-    let Some((z, b)) = read_sleb(body, a) else {
-        return Err(Field::DataFactor);
-    };
-    if !reader::fields::factor_ok(z, e.body.layout.word) {
-        return Err(Field::DataFactor);
-    }
-    let Some((reg, c)) = read_uleb(body, b) else {
-        return Err(Field::Return);
-    };
-    if 0xffff < reg {
-        return Err(Field::Return);
-    }
-    rest(e, c, p, reg)
-}
-
-// The fields in the bytes behind a header's length.
-fn fields(e: &Placed) -> Result<HeaderRead, Field>
-    ensures { header_answer result ≡ header_numbers (e.now.base + length e.now.body.bytes.now) (header_parts e.now.body.layout.debug e.now.body.layout.word e.now.body.bytes.now) }
-{
-    let body = e.body.bytes;
-    let Some((_, version)) = read_le(body, Position::START, 4) else {
-        return Err(Field::Version);
-    };
-    let from = version.at;
-    if body.len() <= from {
-        return Err(Field::Version);
-    }
-    if body[from] != 1 {
-        return Err(Field::Version);
-    }
-    let string = Position {
-        at: from + 1,
-        shortest: version.shortest,
-    };
-    let Some((p, past)) = reader::fields::letters(&e.body, string) else {
-        return Err(Field::Letters);
-    };
-    factors(e, past, p)
-}
-
-// Kept: its parameters one by one, as C passes them.
+// Kept: its parameters one by one, as C passes them. The layout, the entry and its kind are asked here and in `unwind_read_record`: one function for both
+// would have a clause by cases over what `layout_of` and `next_entry` answer, and each caller would still take its answer apart and ask the kind.
+// Kept: `let .. else` on the answers of LEB numbers and headers, here and in records, is a form that document 01 names (docs/DECISIONS.md); on that of
+// `layout_of`, since the export answers C's struct, and `?` is of a Result.
 // The header at a place: 0; 11, 61, 63 where it is a record, 64 and the field at fault.
 #[unsafe(no_mangle)]
 pub extern "C" fn unwind_read_header(section: &[u8], kind: u64, word: u64, place: u64) -> HeaderRead
@@ -140,7 +141,7 @@ pub extern "C" fn unwind_read_header(section: &[u8], kind: u64, word: u64, place
     if !e.header {
         return refused(Question::Header, None);
     }
-    match fields(&placed(section, layout, e)) {
+    match placed(section, layout, e).header_fields() {
         Ok(header) => header,
         Err(field) => refused(Question::Fields, Some(field)),
     }

@@ -22,7 +22,7 @@ pub mod records;
 // What unwind_next_entry answers.
 // Kept: a number beside the fields, since C reads it.
 #[repr(C)]
-#[derive(Clone, Copy)]
+#[derive(Clone, Copy, Default)]
 pub struct EntryRead {
     pub number: u64,
     pub header: u64,
@@ -38,10 +38,9 @@ fn stopped(question: Question, at: u64) -> EntryRead
 {
     EntryRead {
         number: question.number(),
-        header: 0,
         place: at,
-        length: 0,
         next: at,
+        ..EntryRead::default()
     }
 }
 

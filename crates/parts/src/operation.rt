@@ -14,7 +14,7 @@ const STEP: u64 = 17;
 // What unwind_read_operation answers.
 // Kept: a number beside the fields, and a kind by its number, since C reads it.
 #[repr(C)]
-#[derive(Clone, Copy)]
+#[derive(Clone, Copy, Default)]
 pub struct OperationRead {
     pub number: u64,
     pub kind: u64,
@@ -30,40 +30,38 @@ fn refused(question: Question, at: u64, opcode: u64) -> OperationRead
 {
     OperationRead {
         number: question.number(),
-        kind: 0,
-        reg: 0,
-        value: 0,
         next: at,
         opcode,
+        ..OperationRead::default()
     }
 }
 
-fn numbers(kind: u64, reg: u64, value: u64, next: u64, opcode: u64) -> OperationRead
-    ensures { result ≡ record { number = 0; kind = kind; reg = reg; value = value; next = next; opcode = opcode } }
-{
-    OperationRead {
-        number: 0,
-        kind,
-        reg,
-        value,
-        next,
-        opcode,
-    }
-}
-
+#[tactic(auto, unfolding(crate::specs::Operations::operation_numbers))]
 fn numbers_of(op: Operation, next: u64, opcode: u64) -> OperationRead
     ensures { result ≡ operation_numbers op next opcode }
 {
     match op {
-        Operation::Nop => numbers(NOP, 0, 0, next, opcode),
-        Operation::Step(n) => numbers(STEP, 0, n, next, opcode),
-        Operation::Does(row) => numbers(
-            rows::kind(row),
-            u64::from(rows::register(row)),
-            numbers::bits(rows::offset(row)),
+        Operation::Nop => OperationRead {
+            kind: NOP,
             next,
             opcode,
-        ),
+            ..OperationRead::default()
+        },
+        Operation::Step(n) => OperationRead {
+            kind: STEP,
+            value: n,
+            next,
+            opcode,
+            ..OperationRead::default()
+        },
+        Operation::Does(row) => OperationRead {
+            number: 0,
+            kind: rows::kind(row),
+            reg: u64::from(rows::register(row)),
+            value: rows::offset(row).cast_unsigned(),
+            next,
+            opcode,
+        },
     }
 }
 

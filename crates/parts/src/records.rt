@@ -14,7 +14,7 @@ use reader::fields::Record;
 // What unwind_read_record answers.
 // Kept: a number beside the fields, which are 0 where it refuses, since C reads it.
 #[repr(C)]
-#[derive(Clone, Copy)]
+#[derive(Clone, Copy, Default)]
 pub struct RecordRead {
     pub number: u64,
     pub field: u64,
@@ -33,30 +33,27 @@ fn refused(question: Question, at_fault: Option<Field>) -> RecordRead
     RecordRead {
         number: question.number(),
         field: field::fault(at_fault),
-        header: 0,
-        function: 0,
-        length: 0,
-        call_sites: 0,
-        operations: 0,
-        end: 0,
+        ..RecordRead::default()
     }
 }
 
-// Where the pointer to call sites stands, by the place of the augmentation data.
-fn call_sites(e: &Placed, at: Position, pointer: u64) -> u64
-    ensures { result ≡ call_site_bytes e.now.body.layout.debug pointer (e.now.base + length e.now.body.bytes.now) (drop at.at e.now.body.bytes.now) }
-{
-    if e.body.layout.debug {
-        return 0;
+impl Placed<'_> {
+    // Where the pointer to call sites stands, by the place of the augmentation data.
+    fn call_sites(&self, at: Position, pointer: u64) -> u64
+        ensures { result ≡ call_site_bytes self.now.body.layout.debug pointer (self.now.base + length self.now.body.bytes.now) (drop at.at self.now.body.bytes.now) }
+    {
+        if self.body.layout.debug {
+            return 0;
+        }
+        if pointer == 0 {
+            return 0;
+        }
+        let Some((_, past)) = read_uleb(self.body.bytes, at) else {
+            return 0;
+        };
+        let data = past.at;
+        self.base + data as u64
     }
-    if pointer == 0 {
-        return 0;
-    }
-    let Some((_, past)) = read_uleb(e.body.bytes, at) else {
-        return 0;
-    };
-    let data = past.at;
-    e.base + data as u64
 }
 
 // The fields in front of the augmentation data.
@@ -67,52 +64,53 @@ struct Front {
     length: u64,
 }
 
-// From the augmentation data on, or the field at fault.
-fn rest(e: &Placed, at: Position, pointer: u64, f: Front) -> Result<RecordRead, Field>
-    requires { at.at ≤ length e.now.body.bytes.now }
-    ensures { record_answer result ≡ record_numbers e.now.body.layout.debug pointer (e.now.base + length e.now.body.bytes.now) (record_rest e.now.body.layout.debug pointer f.header f.function f.length (drop at.at e.now.body.bytes.now)) }
-{
-    let Some(Record { operations, size }) = reader::fields::record_tail(
-        &e.body, at, pointer, f.length,
-    ) else {
-        return Err(Field::RecordData);
-    };
-    let start = operations.at;
-    Ok(RecordRead {
-        number: 0,
-        field: 0,
-        header: f.header,
-        function: f.function,
-        length: size,
-        call_sites: call_sites(e, at, pointer),
-        operations: e.base + start as u64,
-        end: e.base + e.body.bytes.len() as u64,
-    })
-}
+impl Placed<'_> {
+    // From the augmentation data on, or the field at fault.
+    fn record_rest(&self, at: Position, pointer: u64, f: Front) -> Result<RecordRead, Field>
+        requires { at.at ≤ length self.now.body.bytes.now }
+        ensures { record_answer result ≡ record_numbers self.now.body.layout.debug pointer (self.now.base + length self.now.body.bytes.now) (record_rest self.now.body.layout.debug pointer f.header f.function f.length (drop at.at self.now.body.bytes.now)) }
+    {
+        let Some(Record { operations, size }) = self.body.record_tail(at, pointer, f.length) else {
+            return Err(Field::RecordData);
+        };
+        let start = operations.at;
+        Ok(RecordRead {
+            number: 0,
+            field: 0,
+            header: f.header,
+            function: f.function,
+            length: size,
+            call_sites: self.call_sites(at, pointer),
+            operations: self.base + start as u64,
+            end: self.end(),
+        })
+    }
 
-// The fields in the bytes behind a record's length.
-// Kept: `reader::fields::parse_record` and `reads::addresses::fields_of` read these three numbers too. One function would answer them with the
-// position past them in a struct, and for this one alone which of them is at fault: taking both apart again is more than the three reads.
-fn fields(e: &Placed, pointer: u64) -> Result<RecordRead, Field>
-    ensures { record_answer result ≡ record_numbers e.now.body.layout.debug pointer (e.now.base + length e.now.body.bytes.now) (record_parts e.now.body.layout.debug e.now.body.layout.word pointer e.now.body.bytes.now) }
-{
-    let body = e.body.bytes;
-    let n = reader::fields::field_size(e.body.layout.debug, e.body.layout.word) as usize;
-    let Some((header, a)) = read_le(body, Position::START, 4) else {
-        return Err(Field::Function);
-    };
-    let Some((function, b)) = read_le(body, a, n) else {
-        return Err(Field::Function);
-    };
-    let Some((length, at)) = read_le(body, b, n) else {
-        return Err(Field::Length);
-    };
-    let f = Front {
-        header,
-        function,
-        length,
-    };
-    rest(e, at, pointer, f)
+    // The fields in the bytes behind a record's length.
+    // Kept: `Body::parse_record` and `reads::addresses::fields_of` read these three numbers too, and want other parts of them: the length, behind a mark
+    // that is handed on; the place and the length of the function; and here all three and, at a fault, which it is. One function would answer all with
+    // `Result<(u64, u64, u64, Position), Field>` and a clause by cases, which each caller takes apart in place of three calls of `read_le`.
+    fn record_fields(&self, pointer: u64) -> Result<RecordRead, Field>
+        ensures { record_answer result ≡ record_numbers self.now.body.layout.debug pointer (self.now.base + length self.now.body.bytes.now) (record_parts self.now.body.layout.debug self.now.body.layout.word pointer self.now.body.bytes.now) }
+    {
+        let body = self.body.bytes;
+        let n = reader::fields::field_size(self.body.layout.debug, self.body.layout.word) as usize;
+        let Some((header, a)) = read_le(body, Position::START, 4) else {
+            return Err(Field::Function);
+        };
+        let Some((function, b)) = read_le(body, a, n) else {
+            return Err(Field::Function);
+        };
+        let Some((length, at)) = read_le(body, b, n) else {
+            return Err(Field::Length);
+        };
+        let f = Front {
+            header,
+            function,
+            length,
+        };
+        self.record_rest(at, pointer, f)
+    }
 }
 
 // Kept: its parameters one by one, as C passes them.
@@ -136,7 +134,7 @@ pub extern "C" fn unwind_read_record(
     if e.header {
         return refused(Question::Record, None);
     }
-    match fields(&placed(section, layout, e), pointer) {
+    match placed(section, layout, e).record_fields(pointer) {
         Ok(record) => record,
         Err(field) => refused(Question::Fields, Some(field)),
     }

@@ -1,6 +1,6 @@
 -- From steps to codes: question 34, the codes one by one, and a function's codes from what its rows say.
 use mathlib.Core.Path.{◌≡◌, refl, sym, ap, ◌∙◌}
-use Prim.Native.Nat.{ℕ, zero, suc, ◌+◌, ◌-◌, ◌≤◌}
+use Prim.Native.Nat.{ℕ, zero, suc}
 use native.Mathlib.Omega.{arith}
 use mathlib.Core.Bool.{Bool, true, false}
 use mathlib.Core.Option.{Option, none, some}
@@ -8,7 +8,7 @@ use mathlib.Core.List.{List, [], ◌∷◌, ◌++◌, append-nil, append_assoc}
 use lib.Dec.{T, ltb}
 use lib.IntN.{ℤ, pos, ◌+ℤ◌}
 use mir.Facts.{and_yes}
-use Rattle.std.specs.Prelude.{Ok, Err}
+use Rattle.std.specs.Prelude.{Err}
 use Rattle.format.specs.Numbers.{number_of}
 use Rattle.format.specs.declared.question.Question.{Question}
 use Rattle.format.specs.declared.question.Question.TheVariants.{Registers}
@@ -17,12 +17,13 @@ use Rattle.format.specs.declared.Machine.{Machine}
 use Rattle.format.specs.Machine.{Register, register_of}
 use Rattle.format.specs.declared.Seh.{Seh}
 use Rattle.format.specs.declared.Seh.TheVariants.{Push, Frame, Save}
-use Rattle.format.specs.Lists.{Function, row_at}
-use Rattle.format.specs.X64.{Step, push, alloc, frame, save, Prefix, before_remember, groups, read_groups, low16, code_for, codes_for, codes_of, end_of}
+use Rattle.format.specs.Lists.{Function, count, row_stride, row_at}
+use Rattle.format.specs.X64.{Step, push, alloc, frame, save, Prefix, groups, read_groups, low16, code_for, codes_for, codes_of, end_of}
 use Rattle.format.proofs.Choice.{if-le, is_yes_lem}
 use Rattle.prologue.specs.declared.Walk.{Walk}
 use Rattle.prologue.specs.Groups.{is_good, knows, known, start, walk_from}
-use Rattle.prologue.specs.Pieces.{moved_in, step_in, code_in, codes_in, piece_in, pieces_from, end_in, Short, Shaped}
+use Rattle.prologue.specs.Pieces.{moved_in, step_in, code_in, codes_in, piece_in, pieces_from, pieces_of, end_in, all_rows, Leads, Says, Shaped}
+use Rattle.prologue.specs.Readable.{Short}
 use Rattle.prologue.proofs.Neighbours.{joined_first}
 use Rattle.prologue.proofs.Prefixes.{all_known, count_of, walk_of, last_of, Reads, reads, refuses, past}
 use Rattle.prologue.proofs.Walked.{past_row, past_rows, said}
@@ -118,43 +119,44 @@ ends {m} {t} {v = v} (reads e u l) g z =
     rw f (all_ends m t.below 0 t.steps (is_yes_lem (rw f at z)) ∙ l)
 ends (refuses n e u) g z = cc
 
-module _ (m : Machine) (rows : List ℕ) (at n end : ℕ) (low : at ≤ end) (high : end ≤ at + n)
-    (before : before_remember (each (row_at rows) at n) ≡ each (row_at rows) at (end - at)) where
+module _ (m : Machine) (rows front : List ℕ) (leads : Leads rows front) where
+  abbrev end : ℕ
+  end = count row_stride front
+
   abbrev none_yet : Prefix
   none_yet = record { steps = []; below = pos m.pushed }
 
   abbrev walked : Result Walk
-  walked = walk_from m rows at end at (end - at) (start m)
+  walked = walk_from m front 0 end 0 end (start m)
 
-  whole : Reads m (past_rows rows at end at (end - at) none_yet) (end_in rows at end) (read_groups m (groups (each (row_at rows) at (end - at))) none_yet) walked
+  whole : Reads m (past_rows front 0 end 0 end none_yet) (end_in front 0 end) (read_groups m (groups (each (row_at front) 0 end)) none_yet) walked
   unfolding start walk_of count_of all_known all last_of end_in
-  whole = said m rows at end at (end - at) (omega arith) (omega arith) (λ l. joined_first rows at at (omega arith)) none_yet (sym (if-le at at 0 _ (omega arith)))
+  whole = said m front 0 end 0 end (omega arith) (omega arith) (λ l. joined_first front 0 0 (omega arith)) none_yet (sym (if-le 0 0 0 _ (omega arith)))
 
-  pieces_all : (below : ℤ) → codes_in m below (past_rows rows at end at (end - at) none_yet).steps ≡ pieces_from m below (pos m.pushed) rows at at end (end - at)
+  pieces_all : (below : ℤ) → codes_in m below (past_rows front 0 end 0 end none_yet).steps ≡ pieces_of m below front
   unfolding codes_in
-  pieces_all below = pieces_past m below rows at end at (end - at) none_yet
+  pieces_all below = pieces_past m below front 0 end 0 end none_yet
 
-  codes : (f : Function) → f.rows ≡ each (row_at rows) at n
-      → codes_of m f ≡ onward walked (λ v. pick v.named (good (codes_in m v.below (past_rows rows at end at (end - at) none_yet).steps)) (bad 34))
+  codes : (f : Function) → f.rows ≡ all_rows rows
+      → codes_of m f ≡ onward walked (λ v. pick v.named (good (codes_in m v.below (past_rows front 0 end 0 end none_yet).steps)) (bad 34))
   unfolding codes_of
-  codes f e = rw (e, before) (says whole)
+  codes f e = rw (e, leads.before) (says whole)
 
   module _ {v : Walk} (g : walked ≡ good v) where
-    pub shaped : Short v.below → v.named ≡ true → Shaped m rows at n (Ok (record { below = v.below; end = end }))
+    pub shaped : Short v.below → v.named ≡ true → Says m rows v.below front
     unfolding onward pick
     shaped h z =
         record {
-          low = low;
-          high = high;
+          leads = leads;
           short = h;
           codes = λ f e. codes f e ∙ rw (g, z) (ap good (pieces_all v.below));
           last = rw (← pieces_all v.below) (ends whole g z);
         }
 
-    pub unnamed : v.named ≡ false → Shaped m rows at n (Err Registers)
+    pub unnamed : v.named ≡ false → Shaped m rows (Err Registers)
     unfolding onward pick
     unnamed z f e = codes f e ∙ rw (g, z)
 
-  pub stopped : (q : Question) → walked ≡ bad (number_of q) → Shaped m rows at n (Err q)
+  pub stopped : (q : Question) → walked ≡ bad (number_of q) → Shaped m rows (Err q)
   unfolding onward
   stopped q g f e = codes f e ∙ rw g

@@ -17,7 +17,7 @@ use Rattle.std.specs.Option.{SomeIff, option_eq}
 use Rattle.std.specs.Ordering.{int_eq}
 use borrow.Author.Tests.{eq-eqb}
 use Rattle.format.specs.Rows.{same_offset}
-use Rattle.prologue.specs.Pieces.{Short}
+use Rattle.prologue.specs.Readable.{Short}
 
 -- ---- how large they get
 

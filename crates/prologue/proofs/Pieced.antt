@@ -17,8 +17,10 @@ use Rattle.format.specs.Rows.{kind_of, reg_of, offset_of}
 use Rattle.format.specs.Lists.{field, row_stride, row_at, row_ok_at}
 use Rattle.format.specs.X64.{Step, push, alloc, frame, save, code_for}
 use Rattle.prologue.specs.Groups.{joined, joins}
-use Rattle.prologue.specs.Pieces.{Short, row_step, step_in, moved_by, moved_in, code_in, codes_in, piece_in, pieces_from, named_code}
-use Rattle.prologue.proofs.Rows.{picked, row_at_short}
+use Rattle.prologue.specs.Pieces.{row_step, step_in, moved_by, moved_in, code_in, codes_in, piece_in, pieces_from, named_code}
+use Rattle.prologue.specs.Readable.{Short}
+use Rattle.format.proofs.Choice.{picked}
+use Rattle.prologue.proofs.Rows.{row_at_short}
 
 -- ---- one row
 

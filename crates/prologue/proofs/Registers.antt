@@ -82,6 +82,6 @@ module _ (m : Machine) (off reg : ℕ) (f : Register → Seh) where
   code_none e u = sym (no_code off (low16 (register_of m reg)) f (found_bad (low16 (register_of m reg)) (sym e ∙ u)))
 
   pub code_some : {r : Option (ℕ × Bool)} {n : ℕ} {vector : Bool} → r ≡ found_of (low16 (register_of m reg)) → r ≡ Some (n, vector)
-      → piece_of (Some (off, f (record { number = n; vector = vector }))) ≡ named_code m off reg f
+      → piece_of (Some (record { offset = off; code = f (record { number = n; vector = vector }) })) ≡ named_code m off reg f
   unfolding named_code piece_of code_in onward
   code_some e u = rw (found_good (low16 (register_of m reg)) (sym e ∙ u))

@@ -1,5 +1,5 @@
 -- The loop over a prologue's rows, and the loop to its end.
-use mathlib.Core.Path.{◌≡◌, refl, sym, ap, ◌∙◌}
+use mathlib.Core.Path.{◌≡◌, sym, ap, ◌∙◌}
 use Prim.Native.Nat.{ℕ, zero, suc, ◌+◌, ◌-◌, ◌^◌, ◌≤◌, ◌<◌}
 use native.Mathlib.Omega.{arith}
 use native.Mathlib.Numerals.{add-one}
@@ -14,13 +14,13 @@ use Rattle.format.specs.declared.Row.TheVariants.{DefCfa, DefCfaOffset, DefCfaRe
 use Rattle.format.specs.Rows.{kind_of, offset_of}
 use Rattle.format.specs.Lists.{field, row_stride, row_at}
 use Rattle.format.specs.X64.{before_remember}
-use Rattle.format.proofs.Choice.{either, tested, is_true, is_false}
+use Rattle.format.proofs.Choice.{either, tested, is_true, is_false, picked}
 use Rattle.header_keys.proofs.Counting.{remembers}
 use Rattle.prologue.specs.declared.Walk.{Walk}
 use Rattle.prologue.specs.Groups.{joined, joins, third, stepped, added, lone_in, push_in, last_in, row_in, walk_from, start}
-use Rattle.prologue.specs.Pieces.{Short, Ready}
+use Rattle.prologue.specs.Readable.{Ready, Short}
 use Rattle.prologue.proofs.Neighbours.{joined_above}
-use Rattle.prologue.proofs.Rows.{picked, row_at_short}
+use Rattle.prologue.proofs.Rows.{row_at_short}
 use Rattle.prologue.proofs.Walked.{at_push, at_lone, turned}
 
 -- ---- the distance keeps to 32 bits
@@ -67,32 +67,31 @@ module _ (m : Machine) (w : Walk) (h : Short w.below) where
 -- ---- the rows read
 
 -- at row i, what is left decides
-pub record Walking (m : Machine) (rows : List ℕ) (at end i : ℕ) (w : Walk) : Type 0 where
-  pub low : at ≤ i
+pub record Walking (m : Machine) (rows : List ℕ) (end i : ℕ) (w : Walk) : Type 0 where
   pub high : i ≤ end
   pub short : Short w.below
-  pub rest : walk_from m rows at end at (end - at) (start m) ≡ walk_from m rows at end i (end - i) w
+  pub rest : walk_from m rows 0 end 0 end (start m) ≡ walk_from m rows 0 end i (end - i) w
 
-pub walk_start : (m : Machine) (rows : List ℕ) (at end : ℕ) → at ≤ end → m.pushed < 2 ^ 31 → Walking m rows at end at (start m)
+pub walk_start : (m : Machine) (rows : List ℕ) (end : ℕ) → m.pushed < 2 ^ 31 → Walking m rows end 0 (start m)
 unfolding start
-walk_start m rows at end h l = record { low = omega arith; high = h; short = l; rest = refl }
+walk_start m rows end l = let e : end ≡ end - 0 = omega arith in record { high = omega arith; short = l; rest = ap (λ n. walk_from m rows 0 end 0 n (start m)) e }
 
-module _ {m : Machine} {rows : List ℕ} {at end i : ℕ} {w : Walk} (c : Walking m rows at end i w) where
-  module _ {v : Result Walk} (h : i < end) (e : row_in m rows at end i w ≡ v) where
-    here : walk_from m rows at end at (end - at) (start m) ≡ onward v (walk_from m rows at end (i + 1) (end - (i + 1)))
+module _ {m : Machine} {rows : List ℕ} {end i : ℕ} {w : Walk} (c : Walking m rows end i w) where
+  module _ {v : Result Walk} (h : i < end) (e : row_in m rows 0 end i w ≡ v) where
+    here : walk_from m rows 0 end 0 end (start m) ≡ onward v (walk_from m rows 0 end (i + 1) (end - (i + 1)))
     here =
         let f : end - i ≡ suc (end - suc i) = omega arith in
-        c.rest ∙ rw (f, add-one) (turned m rows at end i (end - suc i) w v e)
+        c.rest ∙ rw (f, add-one) (turned m rows 0 end i (end - suc i) w v e)
 
-  pub walk_turn : {v : Walk} → i < end → row_in m rows at end i w ≡ good v → Ready rows at end → Walking m rows at end (i + 1) v
+  pub walk_turn : {v : Walk} → i < end → row_in m rows 0 end i w ≡ good v → Ready rows 0 end → Walking m rows end (i + 1) v
   unfolding onward
-  walk_turn h e r = record { low = omega (arith, c.low); high = omega arith; short = rw e at (row_in_short m w c.short rows at end i r c.low h); rest = here h e }
+  walk_turn h e r = record { high = omega arith; short = rw e at (row_in_short m w c.short rows 0 end i r (omega arith) h); rest = here h e }
 
-  pub walk_stopped : {n : ℕ} → i < end → row_in m rows at end i w ≡ bad n → walk_from m rows at end at (end - at) (start m) ≡ bad n
+  pub walk_stopped : {n : ℕ} → i < end → row_in m rows 0 end i w ≡ bad n → walk_from m rows 0 end 0 end (start m) ≡ bad n
   unfolding onward
   walk_stopped h e = here h e
 
-  pub walk_ended : end ≤ i → walk_from m rows at end at (end - at) (start m) ≡ good w
+  pub walk_ended : end ≤ i → walk_from m rows 0 end 0 end (start m) ≡ good w
   unfolding walk_from
   walk_ended h = let e : end - i ≡ 0 = omega arith in c.rest ∙ rw e
 
@@ -119,10 +118,9 @@ before_is rows at i (suc n) h l other one =
     rw (e, other at (omega arith) s) (ap (λ rs. row_at rows at ∷ rs) (before_is rows (suc at) i n (omega arith) (omega arith) (λ k g m. other k (omega arith) m) (λ m. one (omega arith)))))
 
 -- the first row that `find` found, or none
-pub first_is : (rows : List ℕ) (at end : ℕ) (r : Option ℕ) → at ≤ end
-    → MatchOption r ((k : ℕ) → at ≤ k → k < end → eqb (kind_of (row_at rows k).1) 6 ≡ false)
-    (λ i. (at ≤ i) × (i < end) × (eqb (kind_of (row_at rows i).1) 6 ≡ true) × ((k : ℕ) → at ≤ k → k < i → eqb (kind_of (row_at rows k).1) 6 ≡ false))
-    → (at ≤ unwrap_or r end) × (unwrap_or r end ≤ end)
-    × (before_remember (each (row_at rows) at (end - at)) ≡ each (row_at rows) at (unwrap_or r end - at))
-first_is rows at end None l h = (l, omega arith, before_is rows at end (end - at) l (omega arith) h (λ k. absurd (omega arith)))
-first_is rows at end (Some i) l h = (h.0, omega (arith, h.1), before_is rows at i (end - at) h.0 (omega (arith, h.1)) h.3 (λ k. h.2))
+pub first_is : (rows : List ℕ) (end : ℕ) (r : Option ℕ)
+    → MatchOption r ((k : ℕ) → 0 ≤ k → k < end → eqb (kind_of (row_at rows k).1) 6 ≡ false)
+    (λ i. (0 ≤ i) × (i < end) × (eqb (kind_of (row_at rows i).1) 6 ≡ true) × ((k : ℕ) → 0 ≤ k → k < i → eqb (kind_of (row_at rows k).1) 6 ≡ false))
+    → (unwrap_or r end ≤ end) × (before_remember (each (row_at rows) 0 end) ≡ each (row_at rows) 0 (unwrap_or r end))
+first_is rows end None h = let e : end - 0 ≡ end = omega arith in (omega arith, rw e at (before_is rows 0 end end (omega arith) (omega arith) h (λ k. absurd (omega arith))))
+first_is rows end (Some i) h = let e : i - 0 ≡ i = omega arith in (omega (arith, h.1), rw e at (before_is rows 0 i end (omega arith) (omega (arith, h.1)) h.3 (λ k. h.2)))

@@ -2,3 +2,4 @@
 pub mod Given
 pub mod Groups
 pub mod Pieces
+pub mod Readable

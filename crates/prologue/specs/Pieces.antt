@@ -1,30 +1,30 @@
 -- The codes of a prologue one by one: what a row that ends an instruction yields. Where a row is no prologue's, what it yields means nothing.
-use Rattle.std.specs.Prelude.{◌≡◌, ℕ, zero, suc, ◌+◌, ◌-◌, ◌*◌, ◌^◌, ◌≤◌, ◌<◌, Bool, List, [], ◌∷◌, ◌++◌, length, T, leb, eqb, Option, Some, None, Ok, Err, ℤ, pos, ◌-ℤ◌}
+use Rattle.std.specs.Prelude.{◌≡◌, ℕ, zero, suc, ◌+◌, ◌-◌, ◌*◌, ◌^◌, ◌≤◌, ◌<◌, Bool, List, [], ◌∷◌, ◌++◌, length, take, T, leb, eqb, Option, Some, None, Ok, Err, ℤ, pos, ◌-ℤ◌}
 use Rattle.std.specs.Prelude as code
-use Rattle.std.specs.Int.Signed.{mag}
 use Rattle.format.specs.Prelude.{pick, Result, good, bad, onward, each}
 use Rattle.format.specs.declared.Machine.{Machine}
 use Rattle.format.specs.Machine.{Register, register_of}
 use Rattle.format.specs.declared.Row.{Row}
 use Rattle.format.specs.declared.Seh.{Seh}
 use Rattle.format.specs.Rows.{kind_of, reg_of, offset_of}
-use Rattle.format.specs.Lists.{Function, row_stride, row_at, row_ok_at}
+use Rattle.format.specs.Lists.{Function, count, row_stride, row_at}
 use Rattle.format.specs.Numbers.{number_of}
 use Rattle.format.specs.declared.question.Question.{Question}
-use Rattle.format.specs.X64.{Step, push, alloc, frame, save, low16, code_for, codes_of, end_of}
-use Rattle.prologue.specs.declared.Shape.{Shape}
+use Rattle.format.specs.X64.{Step, push, alloc, frame, save, low16, before_remember, code_for, codes_of, end_of}
+use Rattle.codes.specs.declared.UnwindCode.{UnwindCode}
+use Rattle.prologue.specs.declared.given.Shape.{Shape}
+use Rattle.prologue.specs.Readable.{Short}
 use Rattle.prologue.specs.Groups.{joined, joins}
 
 -- ---- what the lists hold
 
--- an offset of a row
-abbrev pub Short : ℤ → Type 0
-Short z = mag z < 2 ^ 31
+-- the rows of a list, and those before the first RememberState, which lead it
+abbrev pub all_rows : List ℕ → List (ℕ × Row)
+all_rows rows = each (row_at rows) 0 (count row_stride rows)
 
--- the rows from `at` to `end` can be read
-pub record Ready (rows : List ℕ) (at end : ℕ) : Type 0 where
-  pub inside : row_stride * end ≤ length rows
-  pub ok : (k : ℕ) → at ≤ k → k < end → T (row_ok_at rows k)
+pub record Leads (rows front : List ℕ) : Type 0 where
+  pub taken : front ≡ take (length front) rows
+  pub before : before_remember (all_rows rows) ≡ all_rows front
 
 -- ---- a row
 
@@ -69,29 +69,28 @@ unfoldable pub end_in : (rows : List ℕ) (at end : ℕ) → ℕ
 end_in rows at end = pick (leb end at) 0 (row_at rows (end - 1)).0
 
 -- what an answer of `piece_at` holds, as a list
-unfoldable pub piece_of : Option (ℕ × Seh) → List (ℕ × Seh)
+unfoldable pub piece_of : Option UnwindCode → List (ℕ × Seh)
 piece_of None = []
-piece_of (Some x) = x ∷ []
+piece_of (Some x) = (x.offset, x.code) ∷ []
 
 -- a code that names a register
 unfoldable pub named_code : Machine → (off reg : ℕ) → (Register → Seh) → List (ℕ × Seh)
 named_code m off reg f = code_in off (onward (low16 (register_of m reg)) λ r. good (f r))
 
--- ---- the prologue of n rows from `at` on
+-- ---- the prologue of a function's rows
 
--- all of the codes
-abbrev pub pieces_of : Machine → (rows : List ℕ) (at : ℕ) → Shape → List (ℕ × Seh)
-pieces_of m rows at r = pieces_from m r.below (pos m.pushed) rows at at r.end (r.end - at)
+-- all of the codes of its rows, with the distance `below` behind them
+abbrev pub pieces_of : Machine → (below : ℤ) (front : List ℕ) → List (ℕ × Seh)
+pieces_of m below front = pieces_from m below (pos m.pushed) front 0 0 (count row_stride front) (count row_stride front)
 
--- what a function's rows say, for a function of these rows: its codes
-pub record Says (m : Machine) (rows : List ℕ) (at n : ℕ) (r : Shape) : Type 0 where
-  pub low : at ≤ r.end
-  pub high : r.end ≤ at + n
-  pub short : Short r.below
-  pub codes : (f : Function) → f.rows ≡ each (row_at rows) at n → codes_of m f ≡ good (pieces_of m rows at r)
-  pub last : end_of 0 (pieces_of m rows at r) ≡ end_in rows at r.end
+-- what a function's rows say, for a function of these rows: its codes, by the rows that lead them
+pub record Says (m : Machine) (rows : List ℕ) (below : ℤ) (front : List ℕ) : Type 0 where
+  pub leads : Leads rows front
+  pub short : Short below
+  pub codes : (f : Function) → f.rows ≡ all_rows rows → codes_of m f ≡ good (pieces_of m below front)
+  pub last : end_of 0 (pieces_of m below front) ≡ end_in front 0 (count row_stride front)
 
 -- or the question that was answered by no
-abbrev pub Shaped : Machine → (rows : List ℕ) (at n : ℕ) → code.Result Shape Question → Type 0
-Shaped m rows at n (Ok r) = Says m rows at n r
-Shaped m rows at n (Err q) = (f : Function) → f.rows ≡ each (row_at rows) at n → codes_of m f ≡ bad (number_of q)
+abbrev pub Shaped : Machine → (rows : List ℕ) → code.Result Shape Question → Type 0
+Shaped m rows (Ok r) = Says m rows r.below r.rows.rows.now
+Shaped m rows (Err q) = (f : Function) → f.rows ≡ all_rows rows → codes_of m f ≡ bad (number_of q)

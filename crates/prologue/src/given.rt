@@ -1,6 +1,6 @@
 // What a prologue is read from: a machine, its registers, and rows of a list.
-ghost use Rattle.std.specs.Prelude.{◌≡◌, ◌^◌, ◌≤◌, ◌<◌, length};
-ghost use Rattle.prologue.specs.Pieces.{Ready};
+ghost use Rattle.std.specs.Prelude.{◌≡◌, ◌^◌, ◌<◌, length};
+ghost use Rattle.prologue.specs.Readable.{Short, AreRows};
 
 use format::Machine;
 
@@ -20,12 +20,17 @@ pub struct X64Machine<'m> {
     pub ghost pushed: { machine.now.pushed < 2 ^ 31 },
 }
 
-// The rows of a function or of its prologue, from `at` to `end` of a list.
+// The rows of a function or of its prologue, four numbers each.
 #[derive(Clone, Copy)]
 pub struct FunctionRows<'r> {
-    pub list: &'r [u64],
-    pub at: usize,
-    pub end: usize,
-    pub ghost order: { at ≤ end },
-    pub ghost ready: { Ready list.now at end },
+    pub rows: &'r [u64],
+    pub ghost ready: { AreRows rows.now },
+}
+
+// What the rows of a function say: the distance of the frame address above the stack pointer behind the prologue, and the prologue's rows.
+#[derive(Clone, Copy)]
+pub struct Shape<'r> {
+    pub below: i64,
+    pub rows: FunctionRows<'r>,
+    pub ghost short: { Short below },
 }

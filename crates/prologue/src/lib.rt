@@ -2,7 +2,7 @@
 #![tactic(auto)]
 
 ghost use Rattle.std.specs.Prelude.{IfOk, ◌≡◌, false, [], ◌∷◌, ◌+◌, ◌-◌, ◌*◌, ◌≤◌, ◌<◌, pos, ◌+ℤ◌, ◌-ℤ◌, length, T, eqb};
-ghost use Rattle.format.specs.Lists.{row_stride, row_at, row_ok_at};
+ghost use Rattle.format.specs.Lists.{count, row_stride, row_at, row_ok_at};
 ghost use Rattle.format.specs.Prelude.{pick, each};
 ghost use Rattle.format.specs.Machine.{register_of};
 ghost use Rattle.format.specs.Rows.{kind_of, offset_of};
@@ -11,12 +11,13 @@ ghost use Rattle.format.specs.Coded.{result_of, numbered};
 ghost use Rattle.format.specs.declared.Row.TheVariants.{DefCfa, DefCfaOffset, DefCfaRegister, Offset};
 ghost use Rattle.format.specs.declared.Seh.TheVariants.{Push, Alloc, Frame, Save};
 ghost use Rattle.prologue.specs.Groups.{found_of, knows, joined, joins, third, counted, stepped, added, lone_in, push_in};
-ghost use Rattle.prologue.specs.Pieces.{Short, Shaped, piece_of, named_code, moved_in, end_in};
-ghost use Rattle.prologue.specs.Given.{IsRow, rows_of, last_of, row_of, walk_of, piece_at};
+ghost use Rattle.prologue.specs.Pieces.{Leads, Shaped, piece_of, named_code, moved_in, end_in};
+ghost use Rattle.prologue.specs.Readable.{Short};
+ghost use Rattle.prologue.specs.Given.{IsRow, rows_in, rows_of, last_of, row_of, walk_of, piece_at};
 
+use codes::UnwindCode;
 use format::{Question, Row, Seh};
-use given::{FunctionRows, Registers, X64Machine};
-use leb::wide;
+use given::{FunctionRows, Registers, Shape, X64Machine};
 use rows::{offset_at, row_at};
 
 pub mod given;
@@ -43,7 +44,7 @@ impl Registers<'_> {
         if 64 <= reg {
             return None;
         }
-        let n = wide(self.machine.map[reg as usize]);
+        let n = u64::from(self.machine.map[reg as usize]);
         if n < 16 {
             return Some((n, false));
         }
@@ -66,27 +67,37 @@ impl Registers<'_> {
 
 // ---- the rows of one instruction
 
+// Kept: neighbours by their index, and no `chunk_by`. By `as_chunks::<4>()` a chain would group arrays, while `row_at`, `offset_at`, `joined` and
+// `joins` and their definitions speak of a place in the list; a law of `first_chunks` for `row_at` and one for the groups would come to it.
+
 impl FunctionRows<'_> {
+    // How many they are.
+    pub fn len(&self) -> usize
+        ensures { result ≡ rows_in self.now }
+    {
+        self.rows.len() / rows::ROW_STRIDE
+    }
+
     // Row i is of the instruction of the row before it, where that is one of these rows.
     fn joined(&self, i: usize) -> bool
-        requires { i < self.now.end }
-        ensures { result ≡ joined self.now.list.now self.now.at i }
+        requires { IsRow self.now i }
+        ensures { result ≡ joined self.now.rows.now 0 i }
     {
-        self.at < i && offset_at(self.list, i - 1) == offset_at(self.list, i)
+        0 < i && offset_at(self.rows, i - 1) == offset_at(self.rows, i)
     }
 
     // Row i + 1 is of the instruction of row i, where that is one of these rows.
     fn joins(&self, i: usize) -> bool
-        requires { i < self.now.end }
-        ensures { result ≡ joins self.now.list.now i self.now.end }
+        requires { IsRow self.now i }
+        ensures { result ≡ joins self.now.rows.now i (rows_in self.now) }
     {
-        i + 1 < self.end && offset_at(self.list, i) == offset_at(self.list, i + 1)
+        i + 1 < self.len() && offset_at(self.rows, i) == offset_at(self.rows, i + 1)
     }
 
     // Row i is of the instruction of the two rows before it.
     fn third(&self, i: usize) -> bool
-        requires { i < self.now.end }
-        ensures { result ≡ third self.now.list.now self.now.at i }
+        requires { IsRow self.now i }
+        ensures { result ≡ third self.now.rows.now 0 i }
     {
         self.joined(i) && self.joined(i - 1)
     }
@@ -201,7 +212,7 @@ impl X64Machine<'_> {
         let Row::Offset(reg, y) = b else {
             return Err(Question::Group);
         };
-        self.pushed(reg as u64, z, y, w)
+        self.pushed(u64::from(reg), z, y, w)
     }
 
     // An instruction of one row; it is the last of the prologue, or not.
@@ -209,11 +220,11 @@ impl X64Machine<'_> {
         ensures { numbered result ≡ result_of (lone_in self.now.machine.now last r w) }
     {
         match r {
-            Row::DefCfa(reg, z) => self.frame_set(reg as u64, z, w),
+            Row::DefCfa(reg, z) => self.frame_set(u64::from(reg), z, w),
             Row::DefCfaOffset(z) => Ok(stepped(w, false, true, z)),
-            Row::DefCfaRegister(reg) => self.frame_early(last, reg as u64, w),
+            Row::DefCfaRegister(reg) => self.frame_early(last, u64::from(reg), w),
             Row::Offset(reg, _) => {
-                let known = self.registers().knows(reg as u64);
+                let known = self.registers().knows(u64::from(reg));
                 Ok(stepped(w, false, known, w.below))
             }
             _ => Err(Question::Group),
@@ -229,11 +240,11 @@ impl FunctionRows<'_> {
         requires { IsRow self.now i }
         ensures { numbered result ≡ result_of (last_of m.now self.now i w) }
     {
-        let r = row_at(self.list, i);
+        let r = row_at(self.rows, i);
         if self.joined(i) {
-            return m.push_rows(row_at(self.list, i - 1), r, w);
+            return m.push_rows(row_at(self.rows, i - 1), r, w);
         }
-        m.lone_row(i + 1 == self.end, r, w)
+        m.lone_row(i + 1 == self.len(), r, w)
     }
 
     // Row i: an instruction is read at its last row, and refused at its third.
@@ -259,7 +270,7 @@ impl FunctionRows<'_> {
             steps: Steps::NoStep,
             named: true,
         };
-        for i in self.at..self.end {
+        for i in 0..self.len() {
             w = self.read_row(m, i, w)?;
         }
         Ok(w)
@@ -268,89 +279,100 @@ impl FunctionRows<'_> {
 
 // ---- the prologue
 
-// What the rows of a function say: the distance of the frame address above the stack pointer behind the prologue, and the index
-// past the prologue's last row.
-#[derive(Clone, Copy)]
-pub struct Shape {
-    pub below: i64,
-    pub end: usize,
-}
-
-impl FunctionRows<'_> {
+impl<'r> FunctionRows<'r> {
     // Row i keeps the rules for the epilogues.
+    // Kept: the kind's number alone. `row_at` would make the whole row, its register and its offset too, of each row in front of the first such one,
+    // and the answer would go from the derived `==` to `kind_of`, which the definition of the rows in front asks.
     fn remembers(&self, i: usize) -> bool
-        requires { i < self.now.end }
-        ensures { result ≡ eqb (kind_of (row_at self.now.list.now i).1) 6 }
+        requires { IsRow self.now i }
+        ensures { result ≡ eqb (kind_of (row_at self.now.rows.now i).1) 6 }
     {
-        self.list[rows::ROW_STRIDE * i + rows::ROW_KIND] == numbers::kinds::REMEMBER_STATE
+        self.rows[rows::ROW_STRIDE * i + rows::ROW_KIND] == numbers::kinds::REMEMBER_STATE
     }
 
-    // The index past the last row before the first RememberState.
+    // How many rows stand before the first RememberState.
     fn before_remember(&self) -> usize
-        ensures { (self.now.at ≤ result) × (result ≤ self.now.end) × (before_remember (rows_of self.now) ≡ each (row_at self.now.list.now) self.now.at (result - self.now.at)) }
+        ensures { (result ≤ rows_in self.now) × (before_remember (rows_of self.now) ≡ each (row_at self.now.rows.now) 0 result) }
     {
-        (self.at..self.end)
-            .find(|i| self.remembers(*i))
-            .unwrap_or(self.end)
+        let n = self.len();
+        (0..n).find(|i| self.remembers(*i)).unwrap_or(n)
+    }
+
+    // Those rows.
+    fn leading(&self) -> FunctionRows<'r>
+        ensures { Leads self.now.rows.now result.rows.now }
+    {
+        FunctionRows {
+            rows: &self.rows[..rows::ROW_STRIDE * self.before_remember()],
+        }
     }
 
     // A function's codes. The questions are those of the instructions, then 34.
-    pub fn prologue(&self, m: &X64Machine) -> Result<Shape, Question>
-        ensures { Shaped m.now.machine.now self.now.list.now self.now.at (self.now.end - self.now.at) result }
+    pub fn prologue(&self, m: &X64Machine) -> Result<Shape<'r>, Question>
+        ensures { Shaped m.now.machine.now self.now.rows.now result }
     {
-        let end = self.before_remember();
-        let leading = FunctionRows {
-            list: self.list,
-            at: self.at,
-            end,
-        };
+        let leading = self.leading();
         let w = leading.read_rows(m)?;
         if !w.named {
             return Err(Question::Registers);
         }
-        let below = w.below;
-        Ok(Shape { below, end })
+        Ok(Shape {
+            below: w.below,
+            rows: leading,
+        })
     }
 }
 
 // ---- the codes one by one
 
-// A code stands behind the offset where its instruction ends.
-
 impl Registers<'_> {
     // The code of a push, of a frame and of a save, where the machine has the register.
-    fn push_code(&self, off: u64, reg: u64) -> Option<(u64, Seh)>
+    // Kept: three functions. One over a closure would promise its answer for each function that the closure's answers follow (as apply's `patch`), and
+    // each call would show that of its own closure; here each contract names its function.
+    fn push_code(&self, off: u64, reg: u64) -> Option<UnwindCode>
         ensures { piece_of result ≡ named_code self.now.machine.now off reg (λ x. Push x.number) }
     {
         let (n, _) = self.register(reg)?;
-        Some((off, Seh::Push(n)))
+        Some(UnwindCode {
+            offset: off,
+            code: Seh::Push(n),
+        })
     }
 
-    fn frame_code(&self, off: u64) -> Option<(u64, Seh)>
+    fn frame_code(&self, off: u64) -> Option<UnwindCode>
         ensures { piece_of result ≡ named_code self.now.machine.now off self.now.machine.now.frame (λ x. Frame x.number (pos 0)) }
     {
         let (n, _) = self.register(self.machine.frame)?;
-        Some((off, Seh::Frame(n, 0)))
+        Some(UnwindCode {
+            offset: off,
+            code: Seh::Frame(n, 0),
+        })
     }
 
-    fn save_code(&self, off: u64, reg: u64, above: i64) -> Option<(u64, Seh)>
+    fn save_code(&self, off: u64, reg: u64, above: i64) -> Option<UnwindCode>
         ensures { piece_of result ≡ named_code self.now.machine.now off reg (λ x. Save x.number x.vector above) }
     {
         let (n, vector) = self.register(reg)?;
-        Some((off, Seh::Save(n, vector, above)))
+        Some(UnwindCode {
+            offset: off,
+            code: Seh::Save(n, vector, above),
+        })
     }
 }
 
 impl FunctionRows<'_> {
     // DefCfaOffset: an allocation, or the first row of a push.
-    fn alloc_code(&self, i: usize, off: u64, sofar: i64, z: i64) -> Option<(u64, Seh)>
-        requires { (i < self.now.end) × Short sofar × Short z }
-        ensures { piece_of result ≡ pick (joins self.now.list.now i self.now.end) [] ((off, Alloc (z -ℤ sofar)) ∷ []) }
+    fn alloc_code(&self, i: usize, off: u64, sofar: i64, z: i64) -> Option<UnwindCode>
+        requires { IsRow self.now i × Short sofar × Short z }
+        ensures { piece_of result ≡ pick (joins self.now.rows.now i (rows_in self.now)) [] ((off, Alloc (z -ℤ sofar)) ∷ []) }
     {
         if self.joins(i) {
             return None;
         }
-        Some((off, Seh::Alloc(z - sofar)))
+        Some(UnwindCode {
+            offset: off,
+            code: Seh::Alloc(z - sofar),
+        })
     }
 
     // Offset: the second row of a push, or a save. A save counts from the stack pointer at the prologue's end.
@@ -362,34 +384,37 @@ impl FunctionRows<'_> {
         reg: u64,
         below: i64,
         z: i64,
-    ) -> Option<(u64, Seh)>
-        requires { (i < self.now.end) × Short below × Short z }
-        ensures { piece_of result ≡ pick (joined self.now.list.now self.now.at i) (named_code m.now.machine.now off reg (λ x. Push x.number)) (named_code m.now.machine.now off reg (λ x. Save x.number x.vector (below +ℤ z))) }
+    ) -> Option<UnwindCode>
+        requires { IsRow self.now i × Short below × Short z }
+        ensures { piece_of result ≡ pick (joined self.now.rows.now 0 i) (named_code m.now.machine.now off reg (λ x. Push x.number)) (named_code m.now.machine.now off reg (λ x. Save x.number x.vector (below +ℤ z))) }
     {
         if self.joined(i) {
             return m.push_code(off, reg);
         }
         m.save_code(off, reg, below + z)
     }
+}
 
-    // Row i of a prologue's rows, with the distance `sofar` in front of it and `below` behind all of them: the code of the
-    // instruction that it ends, or none.
-    pub fn piece_at(&self, m: &Registers, i: usize, below: i64, sofar: i64) -> Option<(u64, Seh)>
-        requires { IsRow self.now i × Short below × Short sofar }
-        ensures { piece_of result ≡ piece_at m.now self.now i below sofar }
+impl Shape<'_> {
+    // Row i of the prologue's rows, with the distance `sofar` in front of it: the code of the instruction that it ends, or none.
+    pub fn piece_at(&self, m: &Registers, i: usize, sofar: i64) -> Option<UnwindCode>
+        requires { IsRow self.now.rows i × Short sofar }
+        ensures { piece_of result ≡ piece_at m.now self.now i sofar }
     {
-        let off = offset_at(self.list, i);
-        let r = row_at(self.list, i);
-        match r {
+        let rows = self.rows;
+        let off = offset_at(rows.rows, i);
+        match row_at(rows.rows, i) {
             Row::DefCfa(_, _) => m.frame_code(off),
-            Row::DefCfaOffset(z) => self.alloc_code(i, off, sofar, z),
+            Row::DefCfaOffset(z) => rows.alloc_code(i, off, sofar, z),
             Row::DefCfaRegister(_) => m.frame_code(off),
-            Row::Offset(reg, z) => self.slot_code(m, i, off, reg as u64, below, z),
+            Row::Offset(reg, z) => rows.slot_code(m, i, off, u64::from(reg), self.below, z),
             _ => None,
         }
     }
 }
 
+// Kept: `moved` and `prologue_end` are public, and of a list: of it `moved` asks row i alone to be a row, and `prologue_end` nothing. As methods of
+// FunctionRows they would ask by type that all are (D124).
 // The distance behind row i.
 pub fn moved(sofar: i64, rows: &[u64], i: usize) -> i64
     requires { (row_stride * i + row_stride ≤ length rows.now) × T (row_ok_at rows.now i) }
@@ -401,13 +426,13 @@ pub fn moved(sofar: i64, rows: &[u64], i: usize) -> i64
     z
 }
 
-// Where the prologue of the rows from `at` to `end` ends: at the last one's offset, which is the last code's.
-pub fn prologue_end(rows: &[u64], at: usize, end: usize) -> u64
-    requires { row_stride * end ≤ length rows.now }
-    ensures { result ≡ end_in rows.now at end }
+// Where a prologue of these rows ends: at the last one's offset, which is the last code's.
+pub fn prologue_end(rows: &[u64]) -> u64
+    ensures { result ≡ end_in rows.now 0 (count row_stride rows.now) }
 {
-    if end <= at {
+    let n = rows.len() / rows::ROW_STRIDE;
+    if n == 0 {
         return 0;
     }
-    offset_at(rows, end - 1)
+    offset_at(rows, n - 1)
 }

@@ -10,7 +10,8 @@ use Rattle.arrayvec.specs.ArrayVec.{ArrayVec}
 use mathlib.Core.Bool.{true, false}
 use lib.Dec.{T}
 use Rattle.std.specs.Prelude as code
-use Rattle.std.specs.Option.{is_some}
+use Rattle.std.specs.Option.{is_some, ok_or}
+use Rattle.format.specs.declared.question.Question.{Question}
 use Rattle.format.specs.declared.Operation.{Operation}
 use Rattle.format.specs.declared.Operation.TheVariants.{Nop, Step, Does}
 use Rattle.format.specs.declared.Row.{Row}
@@ -23,6 +24,15 @@ use Rattle.format.proofs.Choice.{if-le, if-gt}
 use Rattle.reader.specs.OneRegister.{Run, set_cfa, register_rule, change_offset, change_register, remember, recall, act, stepped, perform}
 use Rattle.reader.specs.declared.run.State.{State}
 use Rattle.reader.specs.States.{run_of}
+
+-- what stands in front of a `?`: the value that was there, or that there was none and by what is refused
+pub given : {A : Type 0} (o : code.Option A) (q : Question) {x : A} → ok_or o q ≡ Ok x → o ≡ Some x
+given None q e = let f : ◌≡◌ {A = ℕ} 0 1 = cc in absurd (omega arith)
+given (Some y) q e = cc
+
+pub lacking : {A : Type 0} (o : code.Option A) (q : Question) {e : Question} → ok_or o q ≡ Err e → (o ≡ None) × (q ≡ e)
+lacking None q e = (refl, cc)
+lacking (Some y) q e = let f : ◌≡◌ {A = ℕ} 0 1 = cc in absurd (omega arith)
 
 -- a CFA rule that has no register, or no offset, to be kept; and one that has both
 module _ (z : ℤ) (reg : ℕ) (s : Run) where

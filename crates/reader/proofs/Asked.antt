@@ -6,7 +6,7 @@ use mathlib.Core.Bool.{Bool, true, false, ◌&&◌}
 use mathlib.Core.List.{List}
 use lib.Dec.{T, leb, eqb, leb→le}
 use lib.ListN.{length}
-use borrow.Author.Tests.{le-leb, lt-leb}
+use borrow.Author.Tests.{le-leb}
 use mir.Facts.{and_yes}
 use Rattle.format.specs.Prelude.{pick, Result, bad, onward}
 use Rattle.format.specs.Machine.{is_word_size}
@@ -37,35 +37,13 @@ module _ (section relocations : List ℕ) (kind word k : ℕ) where
 -- ---- numbers that lie in a section, and those that do not
 
 module _ (s : List ℕ) (l : Located) where
-  pub header_back : l.header_end < l.header → false ≡ in_section s l
+  pub all_inside : l.header ≤ l.header_end → l.header_end ≤ length s → l.«record» ≤ l.record_end → l.record_end ≤ length s
+      → in_section s l ≡ is_word_size l.word
   unfolding in_section
-  header_back h = rw (lt-leb l.header l.header_end h) refl
-
-  module _ (a : l.header ≤ l.header_end) where
-    pub header_outside : length s < l.header_end → false ≡ in_section s l
-    unfolding in_section
-    header_outside h = rw (le-leb l.header l.header_end a, lt-leb l.header_end (length s) h) refl
-
-    module _ (b : l.header_end ≤ length s) where
-      pub record_back : l.record_end < l.«record» → false ≡ in_section s l
-      unfolding in_section
-      record_back h =
-          rw (le-leb l.header l.header_end a, le-leb l.header_end (length s) b, lt-leb l.«record» l.record_end h) refl
-
-      module _ (c : l.«record» ≤ l.record_end) where
-        pub record_outside : length s < l.record_end → false ≡ in_section s l
-        unfolding in_section
-        record_outside h =
-            rw
-            (le-leb l.header l.header_end a, le-leb l.header_end (length s) b, le-leb l.«record» l.record_end c, lt-leb l.record_end (length s) h)
-            refl
-
-        pub all_inside : l.record_end ≤ length s → in_section s l ≡ is_word_size l.word
-        unfolding in_section
-        all_inside d =
-            rw
-            (le-leb l.header l.header_end a, le-leb l.header_end (length s) b, le-leb l.«record» l.record_end c, le-leb l.record_end (length s) d)
-            refl
+  all_inside a b c d =
+      rw
+      (le-leb l.header l.header_end a, le-leb l.header_end (length s) b, le-leb l.«record» l.record_end c, le-leb l.record_end (length s) d)
+      refl
 
   -- what the run asks for
   pub places : T (in_section s l)

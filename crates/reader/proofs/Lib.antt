@@ -18,3 +18,4 @@ pub mod Steps
 pub mod Tiles
 pub mod Listed
 pub mod Suffixes
+pub mod Searches

@@ -1,4 +1,4 @@
--- The loops over the entries of a section that is tiled: what is looked for is found in the rest.
+-- Searches: for a header, which is found in the rest of the entries, and for a relocation.
 use mathlib.Core.Path.{◌≡◌, refl, sym, ap, ◌∙◌}
 use mathlib.Core.Bool.{Bool, true, false, ◌&&◌}
 use mathlib.Core.Option.{Option, none, some}
@@ -9,70 +9,27 @@ use native.Mathlib.Nat.{add-zero}
 use native.Mathlib.Numerals.{add-one}
 use borrow.Author.Tests.{eq-eqb, ne_eqb, le-leb, lt-leb}
 use lib.Dec.{T, eqb, ltb}
-use lib.ListN.{length, get_or, get_elem?}
+use lib.ListN.{length, get_or}
 use Rattle.format.specs.Prelude.{pick, after, first, each, Result, good, bad}
 use Rattle.format.specs.Questions.{is_some}
-use Rattle.format.specs.Reader.{Entry, second, distance_back, is_header, records, first_addend, header_at, entries}
+use Rattle.format.specs.Reader.{Entry, second, distance_back, is_header, first_addend, header_at, entries}
 use Rattle.format.specs.Lists.{relocation_at, relocations_of}
 use Rattle.format.specs.Coded.{result_of}
 use Rattle.format.proofs.Asked.{option_of}
 use Rattle.reader.specs.Finds.{Searching}
-use Rattle.reader.specs.Spans.{part, entry_in, entries_from, listed, Ends, Ahead, Stands}
+use Rattle.reader.specs.Spans.{part, entry_in, entries_from, Ahead}
 use Rattle.std.specs.Prelude.{Some, None, Ok, Err}
 use Rattle.std.specs.Prelude as code
-use Rattle.std.specs.Option.{SomeIff}
-use Rattle.reader.proofs.Tiling.{tiled_end}
-
--- a search of the entries, `find`, goes on in those from `at` on as `find'`
-pub record Seeking (s : List ℕ) (find find' : List Entry → Option Entry) (at : ℕ) : Type 0 where
-  pub inside : at ≤ length s
-  pub tiled : T (is_some (entries_from s at))
-  pub rest : find (listed (entries s)) ≡ find' (listed (entries_from s at))
-
-pub start : (s : List ℕ) (find : List Entry → Option Entry) → T (is_some (entries s)) → Seeking s find find 0
-unfolding entries entries_from
-start s find t = record { inside = omega arith; tiled = t; rest = refl }
-
-module _ {s : List ℕ} {find find' : List Entry → Option Entry} {at : ℕ} (k : Seeking s find find' at) where
-  module _ {end : ℕ} (e : Ends s at end) where
-    -- past an entry that is not the one
-    pub turn : (find'' : List Entry → Option Entry) → ((es : List Entry) → find' (entry_in s at end ∷ es) ≡ find'' es) → Seeking s find find'' end
-    turn find'' f =
-        record { inside = e.inside; tiled = e.tiled; rest = k.rest ∙ rw e.rest (f (listed (entries_from s end))) }
-
-    pub met : ((es : List Entry) → find' (entry_in s at end ∷ es) ≡ some (entry_in s at end)) → Stands s at end (find (listed (entries s)))
-    met f = record { long = e.long; inside = e.inside; found = k.rest ∙ rw e.rest (f (listed (entries_from s end))) }
-
-  pub ended : find' [] ≡ none → length s ≤ at → find (listed (entries s)) ≡ none
-  unfolding listed
-  ended f h = k.rest ∙ rw (tiled_end s at h) f
-
--- ---- record k
-
-abbrev pub kth : (debug : Bool) → ℕ → List Entry → Option Entry
-kth debug k es = get_elem? (records debug es) k
-
-behind : (x : Entry) (xs : List Entry) (k : ℕ) → (k ≡ 0 → ⊥) → get_elem? (x ∷ xs) k ≡ get_elem? xs (k - 1)
-behind x xs zero n = absurd (n refl)
-behind x xs (suc k) n = let e : k ≡ suc k - 1 = omega arith in ap (get_elem? xs) e
-
-module _ (debug : Bool) (e : Entry) (es : List Entry) (k : ℕ) where
-  pub kth_header : is_header debug e ≡ true → kth debug k (e ∷ es) ≡ kth debug k es
-  unfolding records pick
-  kth_header h = simp h
-
-  module _ (h : is_header debug e ≡ false) where
-    pub kth_here : k ≡ 0 → kth debug k (e ∷ es) ≡ some e
-    unfolding records pick
-    kth_here z = simp (h, z)
-
-    pub kth_later : (k ≡ 0 → ⊥) → kth debug k (e ∷ es) ≡ kth debug (k - 1) es
-    unfolding records pick
-    kth_later n = simp h (behind e (records debug es) k n)
-
-pub kth_none : (debug : Bool) (k : ℕ) → kth debug k [] ≡ none
-unfolding records
-kth_none debug k = refl
+use Rattle.std.specs.Option.{SomeIff, MatchOption}
+use Rattle.std.specs.Fn.{CalledAt}
+use Rattle.std.specs.Iterator.{FindsItem}
+use Rattle.std.proofs.Common.{subst}
+use Rattle.std.proofs.lemmas.Bool.{eqb-true, eqb-false}
+use Rattle.std.proofs.lemmas.Iterator.{first_from_Range}
+use Rattle.std.proofs.iter.Yields.{nat_range_steps}
+use Rattle.std.specs.declared.ops.Range.{Range}
+use denote.Param.Members.{Mut}
+use denote.Ref.{Bor}
 
 -- ---- the header at a place
 
@@ -95,10 +52,6 @@ header_none debug place before = refl
 pub first_ahead : (s : List ℕ) → T (is_some (entries s)) → Ahead s 0
 unfolding entries entries_from
 first_ahead s t = record { inside = omega arith; tiled = t; found = λ debug place before h. refl }
-
-pub seeking : {s : List ℕ} {from place : ℕ} (debug : Bool) (before : ℕ) → Ahead s from → from ≤ place
-    → Seeking s (header_at debug place before) (header_at debug place before) from
-seeking {s} {from} {place} debug before a h = record { inside = a.inside; tiled = a.tiled; rest = a.found debug place before h }
 
 -- ---- the first relocation at a place
 
@@ -128,6 +81,44 @@ module _ {xs : List ℕ} {place i : ℕ} (k : Searching xs place i) where
   pub search_ended : length xs / 5 ≤ i → None ≡ option_of (first_addend place (relocations_of xs))
   unfolding first_addend first each after
   search_ended h = let e : length xs / 5 - i ≡ 0 = omega arith in sym (rw (k.rest, e))
+
+-- past relocations that are none of that place
+pub search_past : {xs : List ℕ} {place : ℕ} (d i : ℕ) → Searching xs place i → i + d ≤ length xs / 5
+    → ((k : ℕ) → i ≤ k → k < i + d → get_or xs (5 * k) 0 ≡ place → ⊥) → Searching xs place (i + d)
+search_past {xs} {place} zero i k l n = let e : i + 0 ≡ i = omega arith in rw e k
+search_past {xs} {place} (suc d) i k l n =
+    let e : i + suc d ≡ i + 1 + d = omega arith in
+    rw e (search_past d (i + 1) (search_turn k (omega arith) (n i (omega arith) (omega arith))) (omega arith) (λ j a b. n j (omega arith) (omega arith)))
+
+-- the first of that place, by a search from `from` on
+module _ {F : Type 0} {g : Mut F (Bor ℕ × Unit {0}) Bool} {f : F} (xs : List ℕ) (place from : ℕ) (u : Range ℕ) (r : code.Option ℕ)
+    (answers : (i : ℕ) (b : Bool) (q : F) → CalledAt g f i b q → (q ≡ f) × (b ≡ eqb (get_or xs (5 * i) 0) place)) (k : Searching xs place from)
+    (h : FindsItem nat_range_steps g (record { start = from; end = length xs / 5 }) f r u) where
+  told : MatchOption r ((k : ℕ) → from ≤ k → k < length xs / 5 → get_or xs (5 * k) 0 ≡ place → ⊥)
+      (λ i. (from ≤ i) × (i < length xs / 5) × (get_or xs (5 * i) 0 ≡ place) × ((k : ℕ) → from ≤ k → k < i → get_or xs (5 * k) 0 ≡ place → ⊥))
+  told =
+      first_from_Range (record { start = from; end = length xs / 5 }) u f r (λ i. get_or xs (5 * i) 0 ≡ place) (λ i. get_or xs (5 * i) 0 ≡ place → ⊥) h
+      (λ i q c. eqb-true _ _ (sym (answers i true q c).1))
+      (λ i q c. let a = answers i false q c in (a.0, eqb-false _ _ (sym a.1)))
+
+  pub addend_none : r ≡ None → None ≡ option_of (first_addend place (relocations_of xs))
+  addend_none e =
+      let t = subst (λ (r : code.Option ℕ). MatchOption r ((k : ℕ) → from ≤ k → k < length xs / 5 → get_or xs (5 * k) 0 ≡ place → ⊥) (λ i. (from ≤ i) × (i < length xs / 5) × (get_or xs (5 * i) 0 ≡ place) × ((k : ℕ) → from ≤ k → k < i → get_or xs (5 * k) 0 ≡ place → ⊥))) e told in
+      let p : Searching xs place (from + (length xs / 5 - from)) = search_past (length xs / 5 - from) from k (omega (arith, k.inside)) (λ j a b. t j a (omega (arith, k.inside))) in
+      search_ended p (omega (arith, k.inside))
+
+  module _ {i : ℕ} (e : r ≡ Some i) where
+    there : (from ≤ i) × (i < length xs / 5) × (get_or xs (5 * i) 0 ≡ place) × ((k : ℕ) → from ≤ k → k < i → get_or xs (5 * k) 0 ≡ place → ⊥)
+    there = subst (λ (r : code.Option ℕ). MatchOption r ((k : ℕ) → from ≤ k → k < length xs / 5 → get_or xs (5 * k) 0 ≡ place → ⊥) (λ i. (from ≤ i) × (i < length xs / 5) × (get_or xs (5 * i) 0 ≡ place) × ((k : ℕ) → from ≤ k → k < i → get_or xs (5 * k) 0 ≡ place → ⊥))) e told
+
+    pub addend_inside : i < length xs / 5
+    addend_inside = there.1
+
+    pub addend_found : Some (get_or xs (5 * i + 4) 0) ≡ option_of (first_addend place (relocations_of xs))
+    addend_found =
+        let d : i ≡ from + (i - from) = omega (arith, there.0) in
+        let p : Searching xs place (from + (i - from)) = search_past (i - from) from k (omega (arith, there.0, there.1)) (λ j a b. there.3 j a (omega (arith, there.0))) in
+        search_met (subst (Searching xs place) (sym d) p) there.1 there.2
 
 -- ---- the place that lies a distance before another
 

@@ -2,6 +2,7 @@
 pub mod Spans
 pub mod Entries
 pub mod Operations
+pub mod Records
 pub mod Fields
 pub mod Finds
 pub mod OneRegister

@@ -53,15 +53,17 @@ pub fn new<'a>(section: &'a [u8]) -> Cursor<'a>
 }
 
 // What stands at the cursor; the answer says where the next entry stands.
+// Kept: a struct of section and position with thin functions over one core is a form that document 01 names (docs/DECISIONS.md). `entry_at` is
+// the core, `next` is it of a cursor and `next_entry` of a slice (parts calls it): all three are public, and public functions keep their names.
 pub fn next<'a>(c: Cursor<'a>, debug: bool) -> Result<Entry, Question>
     ensures { numbered result ≡ result_of (entry_at debug c.entry.section.now c.entry.at) }
 {
     entry_at(c.section, debug, c.at)
 }
 
-// What stands at a position, by a cursor made for it.
+// What stands at a position of a section.
 pub fn next_entry(section: &[u8], debug: bool, at: usize) -> Result<Entry, Question>
     ensures { numbered result ≡ result_of (entry_at debug section.now at) }
 {
-    next(Cursor { section, at }, debug)
+    entry_at(section, debug, at)
 }

@@ -5,6 +5,7 @@ ghost use Rattle.format.specs.Questions.{is_some};
 ghost use Rattle.format.specs.Reader.{second, is_header, records, entries};
 ghost use Rattle.reader.specs.Spans.{part, entry_of, entries_from, listed, end_at, Holds, Ends, Spans};
 
+use crate::records::Records;
 use crate::section::Span;
 use operations::fields::{Position, read_le};
 
@@ -12,8 +13,7 @@ use operations::fields::{Position, read_le};
 pub fn entry_end(s: &[u8], at: usize) -> Option<usize>
     ensures { result ≡ end_at s.now at }
 {
-    let place = Position { at, shortest: true };
-    let (n, body) = read_le(s, place, 4)?;
+    let (n, body) = read_le(s, Position::from(at), 4)?;
     if n < 4 {
         return None;
     }
@@ -29,8 +29,9 @@ pub fn tiles(s: &[u8]) -> bool
     ensures { result ≡ is_some (entries s.now) }
 {
     let mut at = 0;
-    // Kept: a `while`. An iterator whose last item may be no entry would have these lines in its `next`, and a test of each item here besides;
-    // `Entries` goes over a section that has passed this test.
+    // Kept: a `while` of six lines. `Entries` goes only over a section that has passed this test. An iterator for it would be a second struct, whose
+    // `next` has the two tests here, whose items are `Option<usize>` with a state behind the first `None`, and whose clauses say what each gives; then
+    // comes `all(|end| end.is_some())`.
     while at < s.len() {
         let Some(end) = entry_end(s, at) else {
             return false;
@@ -81,9 +82,11 @@ impl Span {
 }
 
 // The entries of a section, which they tile, from a position on.
+// Kept: that they tile it is a clause of `new`, `record_span`, `Records::new` and `Section::header_of`, which are public and take the bytes of a section:
+// with a struct that has it as a field they would ask for more by its type.
 #[derive(Drop)]
 pub struct Entries<'a> {
-    section: &'a [u8],
+    pub(crate) section: &'a [u8],
     at: usize,
     ghost tiled: { T (is_some (entries_from section.now at)) },
 }
@@ -132,15 +135,5 @@ pub fn record_span(s: &[u8], debug: bool, k: u64) -> Option<Span>
     requires { T (is_some (entries s.now)) }
     ensures { Spans s.now result (get_elem? (records debug (listed (entries s.now))) k) }
 {
-    let mut left = k;
-    'entries: for entry in Entries::new(s) {
-        if entry.is_header(s, debug) {
-            continue 'entries;
-        }
-        if left == 0 {
-            return Some(entry);
-        }
-        left -= 1;
-    }
-    None
+    Records::new(s, debug).nth(k as usize)
 }

@@ -10,6 +10,7 @@ ghost use Rattle.format.proofs.Asked.{option_of};
 ghost use Rattle.reader.specs.Fields.{letters_of, two_of, ReadsAugmentation, CountsIn, SkipsTo, Numbers, Heads, tail_mark, header_factors, Records};
 
 use crate::section::{Body, Layout};
+use numbers::encodings;
 use operations::fields::{Position, read_le, read_sleb, read_uleb};
 
 // ---- the augmentation string of a header
@@ -23,6 +24,8 @@ pub struct Augmentation {
 }
 
 // One string, or the one that marks a signal frame: what it announces, and the position past it.
+// Kept: called for each pair of strings, and no table of strings and what they announce that `find` searches: what a search promises is that no entry in
+// front matches, and a law would turn that into `read_letters`, which goes on from string to string as the calls do.
 fn marked(
     s: &[u8],
     at: Position,
@@ -35,7 +38,6 @@ fn marked(
     ensures { ReadsAugmentation s.now at.shortest result (read_letters (two_of plain.now signal.now personality lsda) (drop at.at s.now)) }
 {
     let from = at.at;
-    let shortest = at.shortest;
     if s[from..].starts_with(plain) {
         return Some((
             Augmentation {
@@ -45,7 +47,7 @@ fn marked(
             },
             Position {
                 at: from + plain.len(),
-                shortest,
+                ..at
             },
         ));
     }
@@ -58,29 +60,31 @@ fn marked(
             },
             Position {
                 at: from + signal.len(),
-                shortest,
+                ..at
             },
         ));
     }
     None
 }
 
-// The string at `at`, one of the source's.
-pub fn letters(b: &Body, at: Position) -> Option<(Augmentation, Position)>
-    requires { at.at ≤ length b.now.bytes.now }
-    ensures { ReadsAugmentation b.now.bytes.now at.shortest result (read_letters (spellings b.now.layout.debug) (drop at.at b.now.bytes.now)) }
-{
-    let s = b.bytes;
-    if b.layout.debug {
-        return marked(s, at, b"\0", b"S\0", false, false);
+impl Body<'_> {
+    // The string at `at`, one of the source's.
+    pub fn letters(&self, at: Position) -> Option<(Augmentation, Position)>
+        requires { at.at ≤ length self.now.bytes.now }
+        ensures { ReadsAugmentation self.now.bytes.now at.shortest result (read_letters (spellings self.now.layout.debug) (drop at.at self.now.bytes.now)) }
+    {
+        let s = self.bytes;
+        if self.layout.debug {
+            return marked(s, at, b"\0", b"S\0", false, false);
+        }
+        if let Some(read) = marked(s, at, b"zR\0", b"zRS\0", false, false) {
+            return Some(read);
+        }
+        if let Some(read) = marked(s, at, b"zPR\0", b"zPRS\0", true, false) {
+            return Some(read);
+        }
+        marked(s, at, b"zPLR\0", b"zPLRS\0", true, true)
     }
-    if let Some(read) = marked(s, at, b"zR\0", b"zRS\0", false, false) {
-        return Some(read);
-    }
-    if let Some(read) = marked(s, at, b"zPR\0", b"zPRS\0", true, false) {
-        return Some(read);
-    }
-    marked(s, at, b"zPLR\0", b"zPLRS\0", true, true)
 }
 
 // ---- encodings
@@ -131,13 +135,7 @@ fn lsda_in(s: &[u8], at: Position, word: u64) -> Option<(u64, Position)>
         return None;
     }
     let n = pointer_size(false, word, s[from])?;
-    Some((
-        n as u64,
-        Position {
-            at: from + 1,
-            shortest: at.shortest,
-        },
-    ))
+    Some((n as u64, Position { at: from + 1, ..at }))
 }
 
 // The data that the string promises, the records' own encoding last: the bytes of a record's pointer to call sites.
@@ -149,7 +147,7 @@ fn letters_in(s: &[u8], word: u64, p: Augmentation) -> Option<usize>
     } else {
         0
     };
-    let start = Position { at, shortest: true };
+    let start = Position::from(at);
     let (size, last) = if p.lsda {
         lsda_in(s, start, word)?
     } else {
@@ -159,7 +157,7 @@ fn letters_in(s: &[u8], word: u64, p: Augmentation) -> Option<usize>
     if s.len() <= end {
         return None;
     }
-    if s[end] != 0x1b {
+    if u64::from(s[end]) != encodings::PCREL_SDATA4 {
         return None;
     }
     Some(size as usize)
@@ -175,31 +173,29 @@ pub struct Header {
     pub signal: bool,
 }
 
-// The augmentation data, of which debug_frame has none; the operations follow it.
-pub fn header_tail(b: &Body, at: Position, p: Augmentation) -> Option<Header>
-    requires { at.at ≤ length b.now.bytes.now }
-    ensures { Heads b.now.bytes.now (tail_mark b.now.layout.debug b.now.bytes.now at) result (header_tail b.now.layout.debug (letters_of p) b.now.layout.word (drop at.at b.now.bytes.now)) }
-{
-    let s = b.bytes;
-    if b.layout.debug {
-        return Some(Header {
-            operations: at,
-            pointer: 0,
+impl Body<'_> {
+    // The augmentation data, of which debug_frame has none; the operations follow it.
+    pub fn header_tail(&self, at: Position, p: Augmentation) -> Option<Header>
+        requires { at.at ≤ length self.now.bytes.now }
+        ensures { Heads self.now.bytes.now (tail_mark self.now.layout.debug self.now.bytes.now at) result (header_tail self.now.layout.debug (letters_of p) self.now.layout.word (drop at.at self.now.bytes.now)) }
+    {
+        let s = self.bytes;
+        if self.layout.debug {
+            return Some(Header {
+                operations: at,
+                pointer: 0,
+                signal: p.signal,
+            });
+        }
+        let (start, end) = counted(s, at)?;
+        let from = start.at;
+        let n = letters_in(&s[from..end], self.layout.word, p)?;
+        Some(Header {
+            operations: Position { at: end, ..start },
+            pointer: n as u64,
             signal: p.signal,
-        });
+        })
     }
-    let (start, end) = counted(s, at)?;
-    let from = start.at;
-    let n = letters_in(&s[from..end], b.layout.word, p)?;
-    let past = Position {
-        at: end,
-        shortest: start.shortest,
-    };
-    Some(Header {
-        operations: past,
-        pointer: n as u64,
-        signal: p.signal,
-    })
 }
 
 // The data alignment factor is minus the word.
@@ -212,45 +208,47 @@ pub fn factor_ok(z: i64, word: u64) -> bool
     z.unsigned_abs() == word
 }
 
-// From the code alignment factor on.
-fn header_factors(b: &Body, at: Position, p: Augmentation) -> Option<Header>
-    ensures { Heads b.now.bytes.now (at.shortest && numbers_short (header_numbers b.now.layout.debug) (drop at.at b.now.bytes.now)) result (header_factors b.now.layout.debug (letters_of p) b.now.layout.word (drop at.at b.now.bytes.now)) }
-{
-    let s = b.bytes;
-    let (code, data) = read_uleb(s, at)?;
-    if code != 1 {
-        return None;
+impl Body<'_> {
+    // From the code alignment factor on.
+    fn header_factors(&self, at: Position, p: Augmentation) -> Option<Header>
+        ensures { Heads self.now.bytes.now (at.shortest && numbers_short (header_numbers self.now.layout.debug) (drop at.at self.now.bytes.now)) result (header_factors self.now.layout.debug (letters_of p) self.now.layout.word (drop at.at self.now.bytes.now)) }
+    {
+        let s = self.bytes;
+        let (code, data) = read_uleb(s, at)?;
+        if code != 1 {
+            return None;
+        }
+        let (z, ret) = read_sleb(s, data)?;
+        if !factor_ok(z, self.layout.word) {
+            return None;
+        }
+        let (reg, tail) = read_uleb(s, ret)?;
+        if 0xffff < reg {
+            return None;
+        }
+        self.header_tail(tail, p)
     }
-    let (z, ret) = read_sleb(s, data)?;
-    if !factor_ok(z, b.layout.word) {
-        return None;
-    }
-    let (reg, tail) = read_uleb(s, ret)?;
-    if 0xffff < reg {
-        return None;
-    }
-    header_tail(b, tail, p)
-}
 
-// Question 64 of a header, by the bytes behind its length.
-pub fn parse_header(b: &Body) -> Option<Header>
-    ensures { Heads b.now.bytes.now (header_short b.now.layout.debug b.now.bytes.now) result (parse_header b.now.layout.debug b.now.layout.word b.now.bytes.now) }
-{
-    let s = b.bytes;
-    let (_, version) = read_le(s, Position::START, 4)?;
-    let from = version.at;
-    if s.len() <= from {
-        return None;
+    // Question 64 of a header, by the bytes behind its length.
+    pub fn parse_header(&self) -> Option<Header>
+        ensures { Heads self.now.bytes.now (header_short self.now.layout.debug self.now.bytes.now) result (parse_header self.now.layout.debug self.now.layout.word self.now.bytes.now) }
+    {
+        let s = self.bytes;
+        let (_, version) = read_le(s, Position::START, 4)?;
+        let from = version.at;
+        if s.len() <= from {
+            return None;
+        }
+        if s[from] != 1 {
+            return None;
+        }
+        let string = Position {
+            at: from + 1,
+            ..version
+        };
+        let (p, past) = self.letters(string)?;
+        self.header_factors(past, p)
     }
-    if s[from] != 1 {
-        return None;
-    }
-    let string = Position {
-        at: from + 1,
-        shortest: version.shortest,
-    };
-    let (p, past) = letters(b, string)?;
-    header_factors(b, past, p)
 }
 
 // ---- the fields of a record
@@ -262,30 +260,28 @@ pub struct Record {
     pub size: u64,
 }
 
-// The augmentation of a record holds its pointer to call sites.
-pub fn record_tail(b: &Body, at: Position, pointer: u64, size: u64) -> Option<Record>
-    requires { at.at ≤ length b.now.bytes.now }
-    ensures { Records b.now.bytes.now (tail_mark b.now.layout.debug b.now.bytes.now at) result (record_tail b.now.layout.debug pointer size (drop at.at b.now.bytes.now)) }
-{
-    if b.layout.debug {
-        return Some(Record {
-            operations: at,
+impl Body<'_> {
+    // The augmentation of a record holds its pointer to call sites.
+    pub fn record_tail(&self, at: Position, pointer: u64, size: u64) -> Option<Record>
+        requires { at.at ≤ length self.now.bytes.now }
+        ensures { Records self.now.bytes.now (tail_mark self.now.layout.debug self.now.bytes.now at) result (record_tail self.now.layout.debug pointer size (drop at.at self.now.bytes.now)) }
+    {
+        if self.layout.debug {
+            return Some(Record {
+                operations: at,
+                size,
+            });
+        }
+        let (start, end) = counted(self.bytes, at)?;
+        let from = start.at;
+        if ((end - from) as u64) < pointer {
+            return None;
+        }
+        Some(Record {
+            operations: Position { at: end, ..start },
             size,
-        });
+        })
     }
-    let (start, end) = counted(b.bytes, at)?;
-    let from = start.at;
-    if ((end - from) as u64) < pointer {
-        return None;
-    }
-    let past = Position {
-        at: end,
-        shortest: start.shortest,
-    };
-    Some(Record {
-        operations: past,
-        size,
-    })
 }
 
 // The bytes of a function's place and of its length.
@@ -295,15 +291,17 @@ pub fn field_size(debug: bool, word: u64) -> u64
     if debug { word } else { 4 }
 }
 
-// Question 64 of a record; `shortest` is the mark of what was read before.
-pub fn parse_record(b: &Body, pointer: u64, shortest: bool) -> Option<Record>
-    ensures { Records b.now.bytes.now (shortest && record_short b.now.layout.debug b.now.bytes.now) result (parse_record b.now.layout.debug b.now.layout.word pointer b.now.bytes.now) }
-{
-    let s = b.bytes;
-    let n = field_size(b.layout.debug, b.layout.word) as usize;
-    let start = Position { at: 0, shortest };
-    let (_, place) = read_le(s, start, 4)?;
-    let (_, length) = read_le(s, place, n)?;
-    let (size, tail) = read_le(s, length, n)?;
-    record_tail(b, tail, pointer, size)
+impl Body<'_> {
+    // Question 64 of a record; `shortest` is the mark of what was read before.
+    pub fn parse_record(&self, pointer: u64, shortest: bool) -> Option<Record>
+        ensures { Records self.now.bytes.now (shortest && record_short self.now.layout.debug self.now.bytes.now) result (parse_record self.now.layout.debug self.now.layout.word pointer self.now.bytes.now) }
+    {
+        let s = self.bytes;
+        let n = field_size(self.layout.debug, self.layout.word) as usize;
+        let start = Position { at: 0, shortest };
+        let (_, place) = read_le(s, start, 4)?;
+        let (_, length) = read_le(s, place, n)?;
+        let (size, tail) = read_le(s, length, n)?;
+        self.record_tail(tail, pointer, size)
+    }
 }

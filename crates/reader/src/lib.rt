@@ -17,6 +17,7 @@ pub mod entries;
 pub mod fields;
 pub mod location;
 pub mod operation;
+pub mod records;
 pub mod run;
 pub mod section;
 pub mod shortest;
@@ -63,6 +64,8 @@ pub fn locate(
 ) -> Result<Located, Question>
     ensures { Locates section.now word result (locate_in section.now relocations.now kind word k) }
 {
+    // Kept: `let .. else`, which document 01 names for the answers of headers and LEB numbers (docs/DECISIONS.md), on the other answers here and in
+    // location too: each is asked once, and the refusal is named beside it. In `run::remember` `map_err` was tried, and the check did not prove it alone.
     let Some(section) = section_of(section, relocations, kind, word) else {
         return Err(Question::Interface);
     };
@@ -96,6 +99,8 @@ pub fn rules_at(section: &[u8], l: Located, q: u16, p: u64) -> Result<Rules, Que
 }
 
 // Whether every number that `rules_at` reads is spelled shortest; those of the fields were looked at by `locate`.
+// Kept: the two runs one behind the other. Tried with `operations().iter().all(..)`: what `all` asks of each turn stayed open, since that a span lies in
+// the section is known of the fields, and not of a member of the list.
 pub fn shortest_at(section: &[u8], l: Located, p: u64) -> bool
     ensures { result ≡ shortest_from section.now l p }
 {
@@ -105,14 +110,10 @@ pub fn shortest_at(section: &[u8], l: Located, p: u64) -> bool
     if !l.shortest {
         return false;
     }
-    let header = l.header;
-    let header_end = l.header_end;
-    if !shortest::run(&section[header..header_end], l.word, p) {
+    if !shortest::run(&section[l.header..l.header_end], l.word, p) {
         return false;
     }
-    let record = l.record;
-    let record_end = l.record_end;
-    shortest::run(&section[record..record_end], l.word, p)
+    shortest::run(&section[l.record..l.record_end], l.word, p)
 }
 
 // The rules of record k at offset p, or the question answered by no.

@@ -9,7 +9,6 @@ ghost use Rattle.reader.specs.Spans.{part, entry_of, listed, Holds, Ahead, Spans
 ghost use Rattle.reader.specs.Finds.{Searching, spans_of, Locates, two_entries, Stand};
 
 use crate::entries::{self, Entries};
-use crate::fields;
 use crate::section::{Body, Section, Span};
 use format::Question;
 
@@ -17,17 +16,15 @@ use format::Question;
 
 // The addend of the first relocation at a place, which none in front of the i-th has; a relocation is five numbers, the place first and the
 // addend last.
+// Kept: that none in front has it is a clause (`Searching`) here and of reads' `header_place` and `header_start`, which have another place in each
+// call: a struct of list, place and index would be made for one call.
 pub fn addend_from(relocs: &[u64], place: u64, from: usize) -> Option<usize>
     requires { Searching relocs.now place from }
     ensures { result ≡ option_of (first_addend place (relocations_of relocs.now)) }
 {
     let n = relocs.len() / relocs::RELOCATION_STRIDE;
-    for i in from..n {
-        if relocs[relocs::RELOCATION_STRIDE * i] == place {
-            return Some(relocs[relocs::RELOCATION_STRIDE * i + relocs::RELOCATION_ADDEND] as usize);
-        }
-    }
-    None
+    let i = (from..n).find(|i| relocs[relocs::RELOCATION_STRIDE * *i] == place)?;
+    Some(relocs[relocs::RELOCATION_STRIDE * i + relocs::RELOCATION_ADDEND] as usize)
 }
 
 // The same of all relocations.
@@ -73,12 +70,7 @@ impl<'a> Section<'a> {
         requires { Ahead self.now.bytes.now from × (from ≤ place) }
         ensures { Spans self.now.bytes.now result (header_at self.now.layout.debug place before (listed (entries self.now.bytes.now))) }
     {
-        for entry in Entries::starting(self.bytes, from) {
-            if self.starts(entry, place, before) {
-                return Some(entry);
-            }
-        }
-        None
+        Entries::starting(self.bytes, from).find(|entry| self.starts(*entry, place, before))
     }
 
     // Question 63: the header of a record.
@@ -95,6 +87,7 @@ impl<'a> Section<'a> {
 
 // Where the operations of record k and of its header are, the function's length, the header's signal mark, the bytes of a record's pointer
 // to call sites, the word, and whether the numbers among the fields of both are spelled shortest.
+// Kept: four places, as C's struct has them (reads), from and into which From goes field by field; `operations` gives the spans.
 #[derive(Clone, Copy)]
 pub struct Located {
     pub header: usize,
@@ -147,12 +140,11 @@ impl<'a> Section<'a> {
         ensures located { Locates self.now.bytes.now self.now.layout.word result (parsed self.now.layout.debug self.now.layout.word (entry_of self.now.bytes.now cie) (entry_of self.now.bytes.now fde)) }
         ensures ends { IfOk result (λ l. (l.header_end ≡ cie.end) × (l.record_end ≡ fde.end)) }
     {
-        let Some(header) = fields::parse_header(&self.body(cie)) else {
+        let Some(header) = self.body(cie).parse_header() else {
             return Err(Question::Fields);
         };
         let rules = header.operations;
-        let Some(record) = fields::parse_record(&self.body(fde), header.pointer, rules.shortest)
-        else {
+        let Some(record) = self.body(fde).parse_record(header.pointer, rules.shortest) else {
             return Err(Question::Fields);
         };
         let rows = record.operations;

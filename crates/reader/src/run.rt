@@ -14,6 +14,8 @@ use format::{CfaRule, Operation, Question, Row, Rule, Rules};
 // ---- the state
 
 // The rules that hold, and those stored, the last at the end.
+// Kept: the followed register and its rule after the header go beside it to `restore`, `act` and `perform`. They stay the same in a run over an entry's
+// operations: as fields of the state they would be in what each of the eight steps may change, and the contract of each would say that they do not.
 #[derive(Drop)]
 pub struct State {
     pub rules: Rules,
@@ -64,9 +66,7 @@ fn register_rule(cfa: CfaRule) -> Result<(u16, i64), Question>
 fn restore(s: &mut State, q: u16, reg: u16, initial: Option<Rule>) -> Result<(), Question>
     ensures { Acts result (run_of s.new) (restored q reg initial (run_of s.old)) }
 {
-    let Some(rule) = initial else {
-        return Err(Question::States);
-    };
+    let rule = initial.ok_or(Question::States)?;
     set_rule(s, q, reg, rule);
     Ok(())
 }
@@ -86,9 +86,7 @@ fn remember(s: &mut State) -> Result<(), Question>
 fn recall(s: &mut State) -> Result<(), Question>
     ensures { Acts result (run_of s.new) (recall (run_of s.old).stored (run_of s.old)) }
 {
-    let Some(rules) = s.stored.pop() else {
-        return Err(Question::States);
-    };
+    let rules = s.stored.pop().ok_or(Question::States)?;
     s.rules = rules;
     Ok(())
 }
@@ -153,8 +151,8 @@ pub fn perform(
 
 // ---- the operations of two entries
 
-// Kept: a loop like that of `listing::run::fill`. Both have their operations from the iterator and `perform`, and differ in what is left: what a
-// step does, what a refusal is (an error here; there the end of the lines so far) and what is answered in the end.
+// Kept: a loop of 18 lines like that of `listing::run::fill`. Both have their operations from the iterator and `perform`. One loop for both would take
+// two closures, for a step and for a refusal, that store lines there and nothing here, and its contract would say what the calls of both left behind.
 // The header's operations and then the record's, for register q, until a step would pass p.
 pub fn run(s: &[u8], l: &Located, p: u64, q: u16) -> Result<Rules, Question>
     requires { T (in_section s.now l.now) }

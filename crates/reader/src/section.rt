@@ -3,6 +3,8 @@ ghost use Rattle.std.specs.Prelude.{T};
 ghost use Rattle.format.specs.Machine.{is_word_size};
 
 // How fields are laid out: those of debug_frame or of eh_frame, and how many bytes a word has.
+// Kept: a bool, and not `format::Section`, here and in what takes it: the definitions (header_id, is_header, records, parse_header) take a Bool, and each
+// clause would name the test of the enum for it.
 #[derive(Clone, Copy)]
 pub struct Layout {
     pub debug: bool,
@@ -19,10 +21,9 @@ pub struct Section<'a> {
 }
 
 // Where an entry of a section starts and ends, or an entry's operations.
-// Kept: that a section holds the entry is a clause (`Holds`) of 17 functions here, in section_check and in reads. In a struct of the entry and its
-// section it is a field; but where two entries meet (`parse`, reads' `locate_entries`) or an entry and the marks of its section (section_check's
-// `header_of`, `answers_at` and `passes`, reads' `header_start`) a clause says then that the sections are one, and each item of the iterator over
-// entries has a copy of the section.
+// Kept: that a section holds the entry is a clause (`Holds`) of 17 functions, in entries and location, in section_check and in reads, and no field. In a struct of an entry,
+// its section and that fact, six of them (`parse`, reads' `locate_entries` and `header_start`, section_check's `header_of`, `answers_at` and `passes`)
+// have in its place the clause that two sections are one, and what `Entries` and `Records` give is four words in place of two.
 #[derive(Clone, Copy)]
 pub struct Span {
     pub at: usize,

@@ -1,8 +1,8 @@
 -- The header of a record by its place, and the index stored number by number.
-use Rattle.std.proofs.Common.{◌≡◌, ℕ, ◌+◌, ◌*◌, ◌/◌, ◌^◌, ◌<◌, ◌≤◌, Bool, true, false, ◌&&◌, T, eqb, ltb, leb, List, [], ◌∷◌, length, get_or, set, sym, refl, ap, ◌∙◌, subst, arith, length-set, le-ltb, lt-ltb, eq-eqb}
+use Rattle.std.proofs.Common.{◌≡◌, ℕ, zero, suc, ◌+◌, ◌-◌, ◌*◌, ◌/◌, ◌^◌, ◌<◌, ◌≤◌, Bool, true, false, ◌&&◌, T, eqb, ltb, leb, List, [], ◌∷◌, length, get_or, set, sym, refl, ap, ◌∙◌, subst, arith, length-set, MatchOption, le-ltb, lt-ltb, eq-eqb}
 use mathlib.Core.Option.{Option, none, some}
 use mir.Facts.{eqb_yes}
-use Rattle.std.specs.Option.{option_eq}
+use Rattle.std.specs.Option.{option_eq, unwrap_or}
 use Rattle.std.proofs.lemmas.Bool.{eqb-true}
 use Rattle.format.specs.Prelude.{pick, after, first, Result, good, bad, onward, or_else}
 use Rattle.format.specs.Put.{put}
@@ -25,7 +25,7 @@ use Rattle.format.specs.declared.question.Question.TheVariants.{Tiling, OtherRoo
 use Rattle.format.specs.Coded.{numbered}
 use Rattle.reads.specs.Standing.{Skipped, Headed, Stores, Indexes}
 use Rattle.reads.specs.declared.Indexed.{Indexed}
-use Rattle.reads.proofs.Passing.{Passing, begun, passed, all_passed, records_header, records_record}
+use Rattle.reader.proofs.Searches.{records_header, records_record}
 
 -- ---- the header that starts at a place
 
@@ -155,43 +155,32 @@ module _ (xs : List ℕ) where
   pub skipped_one : {place i : ℕ} → Skipped xs place i → i < length xs / 5 → get_or xs (5 * i) 0 < place → Skipped xs place (i + 1)
   skipped_one k h l = record { searching = λ q m. search_turn (k.searching q m) h (λ e. absurd (omega arith)) }
 
+  skipped_by : (n : ℕ) {place i : ℕ} → Skipped xs place i → i + n ≤ length xs / 5 → ((k : ℕ) → i ≤ k → k < i + n → get_or xs (5 * k) 0 < place) → Skipped xs place (i + n)
+  skipped_by zero {place} {i} p h f = let e : i + 0 ≡ i = omega arith in subst (Skipped xs place) (sym e) p
+  skipped_by (suc n) {place} {i} p h f =
+      let e : i + 1 + n ≡ i + suc n = omega arith in
+      subst (Skipped xs place) e
+      (skipped_by n (skipped_one p (omega arith) (f i (omega arith) (omega arith))) (omega arith) (λ k l m. f k (omega arith) (omega arith)))
+
+  skipped_up : {place i : ℕ} (j : ℕ) → Skipped xs place i → i ≤ j → j ≤ length xs / 5 → ((k : ℕ) → i ≤ k → k < j → get_or xs (5 * k) 0 < place) → Skipped xs place j
+  skipped_up {place} {i} j p l h f =
+      let e : i + (j - i) ≡ j = omega arith in
+      subst (Skipped xs place) e (skipped_by (j - i) p (omega arith) (λ k a b. f k a (omega arith)))
+
+  -- as far as `find` went
+  pub skipped_to : {place i : ℕ} → Skipped xs place i → (r : code.Option ℕ)
+      → MatchOption r ((k : ℕ) → i ≤ k → k < length xs / 5 → get_or xs (5 * k) 0 < place)
+      (λ j. (i ≤ j) × (j < length xs / 5) × (place ≤ get_or xs (5 * j) 0) × ((k : ℕ) → i ≤ k → k < j → get_or xs (5 * k) 0 < place))
+      → Skipped xs place (unwrap_or r (length xs / 5))
+  skipped_to {place} p None h = skipped_up (length xs / 5) p (omega (arith, (p.searching place (omega arith)).inside)) (omega arith) h
+  skipped_to p (Some j) h = skipped_up j p h.0 (omega (arith, h.1)) h.3
+
 -- ---- how many numbers
 
 pub index-length : (debug : Bool) (rs : List Relocation) (es rest : List Entry) → length (index_from debug rs es rest) ≡ 2 * length rest
 unfolding index_from
 index-length debug rs es [] = refl
 index-length debug rs es (e ∷ rest) = omega (arith, index-length debug rs es rest)
-
--- n records were passed
-abbrev pub counts_from : (debug : Bool) → ℕ → List Entry → ℕ
-counts_from debug n es = n + length (records debug es)
-
-pub record Counting (s : List ℕ) (debug : Bool) (n at : ℕ) : Type 0 where
-  pub few : n ≤ at
-  pub pass : Passing s (counts_from debug 0) (counts_from debug n) at
-
-module _ (s : List ℕ) (debug : Bool) where
-  pub counting : T (is_some (entries s)) → Counting s debug 0 0
-  counting t = record { few = omega arith; pass = begun s (counts_from debug 0) t }
-
-  module _ {n at end : ℕ} (k : Counting s debug n at) (e : Ends s at end) where
-    pub count_header : is_header debug (entry_in s at end) ≡ true → Counting s debug n end
-    count_header y =
-        record {
-          few = omega (arith, k.few, e.long);
-          pass = passed k.pass e (counts_from debug n) (λ es. ap (λ (l : List Entry). n + length l) (records_header debug (entry_in s at end) es y));
-        }
-
-    pub count_record : is_header debug (entry_in s at end) ≡ false → Counting s debug (n + 1) end
-    count_record y =
-        record {
-          few = omega (arith, k.few, e.long);
-          pass = passed k.pass e (counts_from debug (n + 1)) (λ es. ap (λ (l : List Entry). n + length l) (records_record debug (entry_in s at end) es y) ∙ omega arith);
-        }
-
-  pub counted : {n at : ℕ} → Counting s debug n at → length s ≤ at → n ≡ length (records debug (listed (entries s)))
-  unfolding records
-  counted k l = omega (arith, all_passed k.pass l)
 
 -- ---- the numbers stored: those of the entries from `at` on are left, and go from i on
 

@@ -8,6 +8,7 @@ use Rattle.reader.specs.Spans.{entry_in, entries_from, listed, Ends}
 use Rattle.reader.proofs.Tiling.{tiled_end}
 use Rattle.reader.proofs.Whole.{tiled}
 use Rattle.reader.proofs.Seeking.{absent}
+use Rattle.reader.proofs.Searches.{records_header, records_record}
 use Rattle.reads.specs.Addresses.{function_of, holds, holder_from, holder_in}
 use Rattle.std.specs.Prelude.{Ok, Err}
 use Rattle.std.specs.Prelude as code
@@ -33,17 +34,6 @@ module _ {A : Type 0} {s : List ℕ} {ask rest : List Entry → A} {at : ℕ} (k
   pub all_passed : length s ≤ at → ask (listed (entries s)) ≡ rest []
   unfolding listed
   all_passed h = k.same ∙ rw (tiled_end s at h) refl
-
--- ---- records
-
-module _ (debug : Bool) (e : Entry) (es : List Entry) where
-  pub records_header : is_header debug e ≡ true → records debug (e ∷ es) ≡ records debug es
-  unfolding records pick
-  records_header h = simp h
-
-  pub records_record : is_header debug e ≡ false → records debug (e ∷ es) ≡ e ∷ records debug es
-  unfolding records pick
-  records_record h = simp h
 
 -- ---- the record that holds an address
 

@@ -11,6 +11,8 @@ use reader::entries::{self, Entries};
 use reader::section::{Body, Layout, Section, Span};
 
 // 2^31, and what a signed number of 4 bytes from there on lacks to 2^64.
+// Kept: a sum. The library's casts would be `u32::try_from(field)`, `cast_signed`, `i64::from` and `cast_unsigned`, with a case for a field of more
+// bytes, which eh_frame does not have.
 const NEGATIVE: u64 = 0x80000000;
 
 const EXTENSION: u64 = 0xffffffff00000000;
@@ -35,6 +37,8 @@ fn fields_of(b: &Body) -> Option<(u64, u64)>
 }
 
 // An address of the target.
+// Kept: remainders. A cast by `as` asks that the value fits its type, so by way of `u32` and `u16` they would stand inside all the same:
+// `u64::from((n % 4294967296) as u32)`.
 fn address_of(l: Layout, n: u64) -> u64
     ensures { result ≡ n % 2 ^ (8 * l.word) }
 {
@@ -55,12 +59,12 @@ fn start_of(l: Layout, address: u64, at: usize, field: u64) -> u64
     if l.debug {
         return field;
     }
-    let here = std::num::wrapping_add_u64(address, (at + 8) as u64);
-    let sum = std::num::wrapping_add_u64(here, field);
+    let here = address.wrapping_add((at + 8) as u64);
+    let sum = here.wrapping_add(field);
     if field < NEGATIVE {
         return address_of(l, sum);
     }
-    address_of(l, std::num::wrapping_add_u64(sum, EXTENSION))
+    address_of(l, sum.wrapping_add(EXTENSION))
 }
 
 impl<'a> Loaded<'a> {
@@ -91,6 +95,7 @@ impl<'a> Loaded<'a> {
     }
 
     // A record holds the address.
+    // Kept: the test of walk's `holds` and call_sites' `covers`, over an Option here and by a definition of its own.
     fn record_holds(&self, fde: Span, pc: u64) -> bool
         requires { Holds self.now.section.bytes.now fde }
         ensures { result ≡ holds pc (function_of self.now.section.layout.debug self.now.section.layout.word self.now.address (entry_of self.now.section.bytes.now fde)) }
@@ -109,6 +114,7 @@ impl<'a> Loaded<'a> {
         if !entries::tiles(s) {
             return Err(Question::Tiling);
         }
+        // Kept: a count beside the entries. An earlier try by the reader's `Records` left its goals `returns` and `returns-in_default` open.
         let mut k: u64 = 0;
         'entries: for entry in Entries::new(s) {
             if entry.is_header(s, self.section.layout.debug) {

@@ -14,6 +14,7 @@ ghost use Rattle.reads.specs.Standing.{stored_as, Skipped, Headed, Stores};
 
 use format::Question;
 use reader::entries::Entries;
+use reader::records::Records;
 use reader::section::{Section, Span};
 use section_check::marks::Stretches;
 
@@ -24,7 +25,7 @@ const MARKS: usize = 1024;
 const STRIDE: usize = 2;
 
 // The place of no header.
-const NOWHERE: u64 = 0xffffffffffffffff;
+const NOWHERE: u64 = u64::MAX;
 
 // The number that is stored for a header's place.
 #[tactic(auto, unfolding(crate::specs::Standing::stored_as))]
@@ -42,15 +43,7 @@ fn count(section: &Section) -> usize
     requires { T (is_some (entries section.now.bytes.now)) }
     ensures { result ≡ length (records section.now.layout.debug (listed (entries section.now.bytes.now))) }
 {
-    let s = section.bytes;
-    let mut n = 0;
-    'entries: for entry in Entries::new(s) {
-        if entry.is_header(s, section.layout.debug) {
-            continue 'entries;
-        }
-        n += 1;
-    }
-    n
+    Records::new(section.bytes, section.layout.debug).count()
 }
 
 // The relocations in front of the first whose place is at least `place`, from those on that are known to be. A writer's relocations go up, so one pass
@@ -64,15 +57,14 @@ fn skipped(section: &Section, place: u64, from: usize) -> usize
     }
     let relocs = section.relocations;
     let n = relocs.len() / relocs::RELOCATION_STRIDE;
-    for i in from..n {
-        if place <= relocs[relocs::RELOCATION_STRIDE * i] {
-            return i;
-        }
-    }
-    n
+    (from..n)
+        .find(|i| place <= relocs[relocs::RELOCATION_STRIDE * *i])
+        .unwrap_or(n)
 }
 
 // Where the header of a record starts, as its second field says or, in debug_frame, that field's relocation.
+// Kept: beside the reader's function of this name, which asks all relocations. Here those that were passed are not asked again: with the reader's, the
+// index of a debug_frame section is quadratic in its records.
 fn header_place(section: &Section, fde: Span, from: usize) -> Option<usize>
     requires { Holds section.now.bytes.now fde × Searching section.now.relocations.now (fde.at + 4) from }
     ensures { result ≡ option_of (header_place section.now.layout.debug (relocations_of section.now.relocations.now) (entry_of section.now.bytes.now fde)) }
@@ -120,6 +112,8 @@ fn fill(section: &Section, places: &mut [u64])
     let mut from = 0;
     let mut last = None;
     let mut i = 0;
+    // Kept: over all entries, and not the records alone: a header that is passed is marked too, and is looked at first for the records behind it;
+    // and i by hand: a header among the entries moves it by none.
     'entries: for entry in Entries::new(s) {
         stretches.mark(entry.at);
         if entry.is_header(s, section.layout.debug) {

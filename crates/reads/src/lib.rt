@@ -27,7 +27,7 @@ pub mod places;
 // but the question's number is 0.
 // Kept: these four have a number beside their fields, and 0 or 1 for a mark, since C reads them.
 #[repr(C)]
-#[derive(Clone, Copy)]
+#[derive(Clone, Copy, Default)]
 pub struct Located {
     pub number: u64,
     pub header: u64,
@@ -43,7 +43,7 @@ pub struct Located {
 
 // What unwind_function_at answers: where the function of a record starts, and its length.
 #[repr(C)]
-#[derive(Clone, Copy)]
+#[derive(Clone, Copy, Default)]
 pub struct Placed {
     pub number: u64,
     pub address: u64,
@@ -52,7 +52,7 @@ pub struct Placed {
 
 // What unwind_record_of answers: the record's number and its place.
 #[repr(C)]
-#[derive(Clone, Copy)]
+#[derive(Clone, Copy, Default)]
 pub struct Holder {
     pub number: u64,
     pub k: u64,
@@ -61,7 +61,7 @@ pub struct Holder {
 
 // What unwind_index answers: how many records there are.
 #[repr(C)]
-#[derive(Clone, Copy)]
+#[derive(Clone, Copy, Default)]
 pub struct Indexed {
     pub number: u64,
     pub records: u64,
@@ -69,76 +69,76 @@ pub struct Indexed {
 
 // ---- the exports' answers, by what was found
 
-#[tactic(auto, unfolding(crate::specs::Places::located_as, crate::specs::Places::refused))]
-fn answer_located(found: Result<Located, Question>) -> Located
-    ensures { result ≡ located_as (numbered found) }
-{
-    match found {
-        Ok(l) => l,
-        Err(question) => Located {
-            number: question.number(),
-            header: 0,
-            header_end: 0,
-            record: 0,
-            record_end: 0,
-            length: 0,
-            pointer: 0,
-            signal: 0,
-            word: 0,
-            shortest: 0,
-        },
+impl From<Result<Located, Question>> for Located {
+    ghost from_gives = { λ found a. a ≡ located_as (numbered found) };
+
+    #[tactic(auto, unfolding(crate::specs::Places::located_as, crate::specs::Places::refused))]
+    fn from(found: Result<Located, Question>) -> Located {
+        match found {
+            Ok(l) => l,
+            Err(question) => Located {
+                number: question.number(),
+                ..Located::default()
+            },
+        }
     }
 }
 
-#[tactic(auto, unfolding(crate::specs::Addresses::placed_as))]
-fn answer_placed(found: Result<(u64, u64), Question>) -> Placed
-    ensures { result ≡ placed_as (numbered found) }
-{
-    match found {
-        Ok((address, length)) => Placed {
-            number: 0,
-            address,
-            length,
-        },
-        Err(question) => Placed {
-            number: question.number(),
-            address: 0,
-            length: 0,
-        },
+// Kept: two impls of one form, for Placed and for Holder: each makes a struct of C with fields of its own names, and meets its own definition
+// (`placed_as`, `holder_as`).
+impl From<Result<(u64, u64), Question>> for Placed {
+    ghost from_gives = { λ found a. a ≡ placed_as (numbered found) };
+
+    #[tactic(auto, unfolding(crate::specs::Addresses::placed_as))]
+    fn from(found: Result<(u64, u64), Question>) -> Placed {
+        match found {
+            Ok((address, length)) => Placed {
+                number: 0,
+                address,
+                length,
+            },
+            Err(question) => Placed {
+                number: question.number(),
+                ..Placed::default()
+            },
+        }
     }
 }
 
-#[tactic(auto, unfolding(crate::specs::Addresses::holder_as))]
-fn answer_holder(found: Result<(u64, u64), Question>) -> Holder
-    ensures { result ≡ holder_as (numbered found) }
-{
-    match found {
-        Ok((k, place)) => Holder {
-            number: 0,
-            k,
-            place,
-        },
-        Err(question) => Holder {
-            number: question.number(),
-            k: 0,
-            place: 0,
-        },
+impl From<Result<(u64, u64), Question>> for Holder {
+    ghost from_gives = { λ found a. a ≡ holder_as (numbered found) };
+
+    #[tactic(auto, unfolding(crate::specs::Addresses::holder_as))]
+    fn from(found: Result<(u64, u64), Question>) -> Holder {
+        match found {
+            Ok((k, place)) => Holder {
+                number: 0,
+                k,
+                place,
+            },
+            Err(question) => Holder {
+                number: question.number(),
+                ..Holder::default()
+            },
+        }
     }
 }
 
-#[tactic(auto, unfolding(crate::specs::Index::indexed_as))]
-fn answer_indexed(found: Result<usize, Question>) -> Indexed
-    ensures { result ≡ indexed_as (numbered found) }
-{
-    match found {
-        Ok(n) => Indexed {
-            number: 0,
-            records: n as u64,
-        },
-        Err(question) => Indexed {
-            number: question.number(),
-            records: 0,
-        },
+impl From<Result<usize, Question>> for Indexed {
+    ghost from_gives = { λ found a. a ≡ indexed_as (numbered found) };
+
+    #[tactic(auto, unfolding(crate::specs::Index::indexed_as))]
+    fn from(found: Result<usize, Question>) -> Indexed {
+        match found {
+            Ok(n) => Indexed {
+                number: 0,
+                records: n as u64,
+            },
+            Err(question) => Indexed {
+                number: question.number(),
+                ..Indexed::default()
+            },
+        }
     }
 }
 
@@ -156,9 +156,9 @@ pub extern "C" fn unwind_locate(
     ensures { result ≡ locate_record section.now relocations.now kind word k }
 {
     let Some(section) = reader::section_of(section, relocations, kind, word) else {
-        return answer_located(Err(Question::Interface));
+        return Located::from(Err(Question::Interface));
     };
-    answer_located(places::locate_nth(&section, k))
+    Located::from(places::locate_nth(&section, k))
 }
 
 // The rules from any numbers; a refusal of the locating is answered as it is.
@@ -210,9 +210,9 @@ pub extern "C" fn unwind_function_at(
 {
     let none = [];
     let Some(section) = reader::section_of(section, &none, kind, word) else {
-        return answer_placed(Err(Question::Interface));
+        return Placed::from(Err(Question::Interface));
     };
-    answer_placed(Loaded { section, address }.function_at(record as usize))
+    Placed::from(Loaded { section, address }.function_at(record as usize))
 }
 
 #[unsafe(no_mangle)]
@@ -227,9 +227,9 @@ pub extern "C" fn unwind_record_of(
 {
     let none = [];
     let Some(section) = reader::section_of(section, &none, kind, word) else {
-        return answer_holder(Err(Question::Interface));
+        return Holder::from(Err(Question::Interface));
     };
-    answer_holder(Loaded { section, address }.holder_in(pc))
+    Holder::from(Loaded { section, address }.holder_in(pc))
 }
 
 #[unsafe(no_mangle)]
@@ -243,9 +243,9 @@ pub extern "C" fn unwind_index(
     ensures { Indexes (index section.now relocations.now kind word (length places.old)) result places.old places.new }
 {
     let Some(section) = reader::section_of(section, relocations, kind, word) else {
-        return answer_indexed(Err(Question::Interface));
+        return Indexed::from(Err(Question::Interface));
     };
-    answer_indexed(index::index_in(&section, places))
+    Indexed::from(index::index_in(&section, places))
 }
 
 #[unsafe(no_mangle)]
@@ -260,7 +260,7 @@ pub extern "C" fn unwind_locate_at(
 {
     let none = [];
     let Some(section) = reader::section_of(section, &none, kind, word) else {
-        return answer_located(Err(Question::Interface));
+        return Located::from(Err(Question::Interface));
     };
-    answer_located(places::locate_at(&section, record as usize, header as usize))
+    Located::from(places::locate_at(&section, record as usize, header as usize))
 }

@@ -20,6 +20,7 @@ use Rattle.lists.specs.declared.Extent.{Extent}
 use Rattle.lists.specs.Extents.{meant}
 use Rattle.headers.proofs.Lengths.{uleb_most}
 use Rattle.records.specs.Sites.{sites_in}
+use Rattle.records.proofs.Chunks.{each_moved}
 use Rattle.records.proofs.Chunks.{stored}
 
 -- ---- one entry
@@ -61,13 +62,6 @@ module _ (ls : List ℕ) (at n : ℕ) where
       λ j l. get_or-take (3 * n) (drop (3 * at) ls) (3 * i + j) 0 (omega arith) ∙ get_or-drop (3 * at) ls (3 * i + j) 0 ∙ ap (λ k. get_or ls k 0) (omega arith) in
       rw (f 0 (omega arith), f 1 (omega arith), f 2 (omega arith))
 
-  part_each : (i m : ℕ) → i + m ≤ n → each (landing_at (take (3 * n) (drop (3 * at) ls))) i m ≡ each (landing_at ls) (at + i) m
-  unfolding each
-  part_each i zero h = refl
-  part_each i (suc m) h =
-      let e : at + suc i ≡ suc (at + i) = omega arith in
-      rw (part_at i (omega arith), part_each (suc i) m (omega arith), e)
-
   pub part_of : at + n ≤ count landing_stride ls
       → each (landing_at (take (3 * at + 3 * n - 3 * at) (drop (3 * at) ls))) 0 (count landing_stride (take (3 * at + 3 * n - 3 * at) (drop (3 * at) ls))) ≡ each (landing_at ls) at n
   part_of h =
@@ -75,7 +69,7 @@ module _ (ls : List ℕ) (at n : ℕ) where
       let l : length (take (3 * n) (drop (3 * at) ls)) ≡ 3 * n = length-take-le (3 * n) (drop (3 * at) ls) (omega (arith, length-drop (3 * at) ls)) in
       let k : 3 * n / 3 ≡ n = omega arith in
       let z : at + 0 ≡ at = omega arith in
-      rw (e, l, k) (rw z at (part_each 0 n (omega arith)))
+      rw (e, l, k) (rw z at (each_moved (landing_at (take (3 * n) (drop (3 * at) ls))) (landing_at ls) at n part_at 0 n (omega arith)))
 
 -- ---- the loop that writes them
 

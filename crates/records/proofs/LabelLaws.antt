@@ -1,17 +1,20 @@
 -- The pair of a step, searched by a loop, and the relocations of one step.
 use mathlib.Core.Path.{◌≡◌, refl, sym, ap, ◌∙◌}
-use Prim.Native.Nat.{ℕ, suc, ◌+◌, ◌-◌, ◌*◌, ◌≤◌, ◌<◌}
+use Prim.Native.Nat.{ℕ, suc, ◌+◌, ◌-◌, ◌*◌, ◌/◌, ◌≤◌, ◌<◌}
 use native.Mathlib.Omega.{arith}
 use native.Mathlib.Numerals.{add-one}
 use mathlib.Core.Bool.{Bool, true, false}
 use mathlib.Core.Option.{Option, none, some}
 use mathlib.Core.List.{List, [], ◌∷◌}
-use lib.ListN.{length, length-append}
+use lib.ListN.{length, get_or, length-append}
+use Rattle.std.specs.Prelude.{take, drop}
+use Rattle.std.proofs.lemmas.List.{length-drop, length-take-le, get_or-take, get_or-drop}
 use Rattle.format.specs.Prelude.{pick, first, each}
 use Rattle.format.specs.Rows.{RowAt, row_bytes, step_bytes, step_form}
-use Rattle.format.specs.Lists.{Pair, pair_at}
+use Rattle.format.specs.Lists.{Pair, pair_at, pair_stride, count}
 use Rattle.format.specs.Records.{pair_for, set_pair, step_relocs}
 use Rattle.records.specs.Labels.{is_for, pair_between, step_pair}
+use Rattle.records.proofs.Chunks.{each_moved}
 
 -- ---- the search
 
@@ -52,23 +55,42 @@ module _ {from to : ℕ} {pairs : List ℕ} {at n i : ℕ} (s : Seeking from to 
       let m : at + n - i ≡ 0 = omega arith in
       sym (s.rest ∙ rw m (none_left from to pairs i))
 
+-- ---- the part of a list that has a function's pairs
+
+module _ (ps : List ℕ) (at n : ℕ) where
+  part_at : (i : ℕ) → i < n → pair_at (take (4 * n) (drop (4 * at) ps)) i ≡ pair_at ps (at + i)
+  unfolding pair_at
+  part_at i h =
+      let f : (j : ℕ) → j < 4 → get_or (take (4 * n) (drop (4 * at) ps)) (4 * i + j) 0 ≡ get_or ps (4 * (at + i) + j) 0 =
+      λ j l. get_or-take (4 * n) (drop (4 * at) ps) (4 * i + j) 0 (omega arith) ∙ get_or-drop (4 * at) ps (4 * i + j) 0 ∙ ap (λ k. get_or ps k 0) (omega arith) in
+      rw (f 0 (omega arith), f 1 (omega arith), f 2 (omega arith), f 3 (omega arith))
+
+  pub pairs_part : at + n ≤ count pair_stride ps
+      → each (pair_at (take (4 * at + 4 * n - 4 * at) (drop (4 * at) ps))) 0 (count pair_stride (take (4 * at + 4 * n - 4 * at) (drop (4 * at) ps))) ≡ each (pair_at ps) at n
+  pairs_part h =
+      let e : 4 * at + 4 * n - 4 * at ≡ 4 * n = omega arith in
+      let l : length (take (4 * n) (drop (4 * at) ps)) ≡ 4 * n = length-take-le (4 * n) (drop (4 * at) ps) (omega (arith, length-drop (4 * at) ps)) in
+      let k : 4 * n / 4 ≡ n = omega arith in
+      let z : at + 0 ≡ at = omega arith in
+      rw (e, l, k) (rw z at (each_moved (pair_at (take (4 * n) (drop (4 * at) ps))) (pair_at ps) at n part_at 0 n (omega arith)))
+
 -- ---- the relocations of one step
 
-pub pair_absent : (place from to : ℕ) (ps : List Pair) → none ≡ pair_for from to ps
-    → step_pair place from to ps ≡ []
-unfolding step_pair set_pair
-pair_absent place from to ps h = rw (← h)
-
-pub pair_found : (place from to : ℕ) (ps : List Pair) (p : Pair) → some p ≡ pair_for from to ps
-    → step_pair place from to ps ≡ set_pair place (step_form (to - from)) (some p)
+-- by the code's answers
+pub step_is : (place from to : ℕ) (ps : List Pair) {form : ℕ} {o : Option Pair} → form ≡ step_form (to - from) → o ≡ pair_for from to ps
+    → set_pair place form o ≡ step_pair place from to ps
 unfolding step_pair
-pair_found place from to ps p h = rw (← h)
+step_is place from to ps e q = rw (e, q)
 
 -- how many there are does not depend on the place and the form
 set_count : (place form : ℕ) (o : Option Pair) → length (set_pair place form o) ≡ length (set_pair 0 0 o)
 unfolding set_pair
 set_count place form none = refl
 set_count place form (some p) = refl
+
+pub pairs_counted : (from to : ℕ) (ps : List Pair) {o : Option Pair} → o ≡ pair_for from to ps → length (set_pair 0 0 o) ≡ length (step_pair 0 from to ps)
+unfolding step_pair
+pairs_counted from to ps q = rw q (sym (set_count 0 (step_form (to - from)) (pair_for from to ps)))
 
 set_most : (place form : ℕ) (o : Option Pair) → length (set_pair place form o) ≤ 2
 unfolding set_pair

@@ -7,6 +7,7 @@ pub mod CallSites
 pub mod RowLoops
 pub mod SurveyLoops
 pub mod OtherRows
+pub mod Pointed
 pub mod FieldLaws
 pub mod RecordLaws
 pub mod FieldRelocs

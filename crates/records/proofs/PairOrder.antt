@@ -2,13 +2,17 @@
 use mathlib.Core.Path.{◌≡◌, refl, sym, subst, ◌∙◌}
 use Prim.Native.Nat.{ℕ, zero, suc, ◌+◌, ◌-◌, ◌≤◌, ◌<◌}
 use native.Mathlib.Omega.{arith}
-use mathlib.Core.Bool.{Bool, true, false}
+use mathlib.Core.Bool.{Bool, true, false, ◌&&◌}
 use mathlib.Core.Logic.{◌≢◌}
 use mathlib.Core.Option.{none, some}
 use mathlib.Core.List.{List}
 use lib.Dec.{T, leb, ltb, leb→le, ltb→lt}
 use borrow.Author.Tests.{ne_eqb}
+use Rattle.std.specs.Prelude as code
+use Rattle.std.specs.Prelude.{MatchOption}
+use Rattle.std.specs.List.{list_all, range_with_len}
 use Rattle.format.specs.Lists.{Pair, pair_at}
+use Rattle.rows.proofs.WholeNumbers.{never}
 use Rattle.format.proofs.Choice.{either}
 use Rattle.records.specs.Labels.{is_for, pair_between, Rising, Parted}
 use Rattle.records.proofs.LabelLaws.{Seeking, start, turn, found, ended}
@@ -35,6 +39,25 @@ module _ {pairs : List ℕ} {at i : ℕ} (s : Climbing pairs at i) where
 
   pub ended_climb : {n : ℕ} → at + n ≤ i → Rising pairs at n
   ended_climb h = record { rise = λ j k a b c. s.so j k a b (omega arith) }
+
+-- the test of each and the one in front of it
+abbrev pub climbs : (pairs : List ℕ) → ℕ → Bool
+climbs pairs i = ltb (pair_at pairs (i - 1)).place1 (pair_at pairs i).place1
+
+split : (a b : Bool) → (a && b) ≡ true → (a ≡ true) × (b ≡ true)
+split true b e = (refl, e)
+split false b e = never e
+
+climbing : (pairs : List ℕ) (i m : ℕ) → Climbing pairs 0 i → list_all (climbs pairs) (range_with_len i m) ≡ true → Climbing pairs 0 (i + m)
+climbing pairs i zero c e = let z : i ≡ i + 0 = omega arith in rw z at c
+climbing pairs i (suc m) c e =
+    let s = split (climbs pairs i) (list_all (climbs pairs) (range_with_len (i + 1) m)) e in
+    let l : (pair_at pairs (i - 1)).place1 < (pair_at pairs i).place1 = ltb→lt _ _ (subst T (sym s.0) tt) in
+    let z : i + 1 + m ≡ i + suc m = omega arith in
+    rw z at (climbing pairs (i + 1) m (turn_climb c refl refl l) s.1)
+
+pub risen : (pairs : List ℕ) (n : ℕ) → list_all (climbs pairs) (range_with_len 1 (n - 1)) ≡ true → Rising pairs 0 n
+risen pairs n e = ended_climb (climbing pairs 1 (n - 1) (start_climb pairs 0) e) (omega arith)
 
 -- ---- a place among them
 
@@ -69,6 +92,17 @@ module _ (from to : ℕ) (pairs : List ℕ) (at n : ℕ) where
       let e : at + d + 1 ≡ at + suc d = omega arith in
       let s = passed_to d (omega arith) (λ j l. f j (omega arith)) in
       subst (λ (i : ℕ). Seeking from to pairs at n i) e (turn s (omega arith) refl (f d (omega arith)))
+
+-- the first pair that `find` found, or none
+pub sought : (from to : ℕ) (pairs : List ℕ) (n : ℕ) (r : code.Option ℕ)
+    → MatchOption r ((k : ℕ) → 0 ≤ k → k < n → is_for from to (pair_at pairs k) ≡ false)
+    (λ i. (0 ≤ i) × (i < n) × (is_for from to (pair_at pairs i) ≡ true) × ((k : ℕ) → 0 ≤ k → k < i → is_for from to (pair_at pairs k) ≡ false))
+    → MatchOption r (none ≡ pair_between from to pairs 0 n) (λ i. some (pair_at pairs i) ≡ pair_between from to pairs 0 n)
+sought from to pairs n code.None h =
+    ended (passed_to from to pairs 0 n n (omega arith) (λ j l. let z : 0 + j ≡ j = omega arith in rw z (h j (omega arith) l))) (omega arith)
+sought from to pairs n (code.Some i) h =
+    let z : 0 + i ≡ i = omega arith in
+    found (rw z at (passed_to from to pairs 0 n i (omega (arith, h.1)) (λ j l. let y : 0 + j ≡ j = omega arith in rw y (h.3 j (omega arith) l)))) (omega (arith, h.1)) refl h.2
 
 module _ (to : ℕ) {from : ℕ} {pairs : List ℕ} {at n i : ℕ} (p : Parted pairs at n i from) where
   under : (j : ℕ) → at ≤ j → j < i → is_for from to (pair_at pairs j) ≡ false

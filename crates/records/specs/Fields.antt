@@ -7,6 +7,7 @@ use Rattle.format.specs.Lists.{Relocation}
 use Rattle.format.specs.Constants.{except_table, debug_frame}
 use Rattle.format.specs.Headers.{counted, pointer_bytes, pointer_reloc, reloc}
 use Rattle.lists.specs.declared.Lsda.{Lsda}
+use Rattle.lists.specs.declared.Personality.{Personality}
 use Rattle.lists.specs.declared.Labels.{Labels}
 use Rattle.lists.specs.declared.Extent.{Extent}
 use Rattle.header_keys.specs.declared.Kind.{Kind}
@@ -31,6 +32,11 @@ unfoldable pub pointed : {X : Type 0} → Kind → X → (Lsda → X) → X → 
 pointed Plain without named table = without
 pointed Personal without named table = table
 pointed (Named p) without named table = lsda_by p.lsda without named
+
+-- that of a personality
+unfoldable pub lsda_named : code.Option Personality → code.Option Lsda
+lsda_named None = None
+lsda_named (Some p) = p.lsda
 
 -- its blank bytes
 unfoldable pub blank_in : (word : ℕ) → Extent → ℕ

@@ -2,7 +2,7 @@
 use Rattle.std.specs.Prelude.{◌≡◌, ℕ, ◌+◌, ◌-◌, ◌≤◌, List, [], length}
 use Rattle.format.specs.Prelude.{each}
 use Rattle.format.specs.Headers.{ahead}
-use Rattle.format.specs.Lists.{Function, Pair, Relocation, row_at, pair_at}
+use Rattle.format.specs.Lists.{Function, Pair, Relocation, row_at, pair_at, pair_stride, count}
 use Rattle.format.specs.Records.{record_bytes, record_relocs}
 use Rattle.lists.specs.declared.Labels.{Labels}
 use Rattle.lists.specs.Extents.{meant}
@@ -45,7 +45,7 @@ abbrev pub pairs_in : Labels → (pairs : List ℕ) → List Pair
 pairs_in l pairs = each (pair_at pairs) l.pairs_at l.pairs
 
 abbrev pub pairs_of : Pairs → List Pair
-pairs_of x = each (pair_at x.list.now) x.at x.n
+pairs_of x = each (pair_at x.part.now) 0 (count pair_stride x.part.now)
 
 -- the relocations of a run's steps, where its bytes start at `place`
 abbrev pub steps_of : Run → (place : ℕ) → List Pair → List Relocation

@@ -32,7 +32,7 @@ impl<'a> Landings<'a> {
     }
 
     // Their entries.
-    // Kept: the list and the place stand apart here and below, as in leb.
+    // Kept: the list and the place stand apart here and below, as in leb; and sizes stand beside bytes, for the reason at the head of headers.
     fn put(&self, out: &mut [u8], at: usize) -> usize
         requires { at + length (sites_bytes (landings_of self.now)) ≤ length out.old }
         ensures { Wrote out.old out.new at result (sites_bytes (landings_of self.now)) }

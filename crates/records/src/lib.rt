@@ -2,7 +2,6 @@
 #![tactic(auto)]
 
 ghost use Rattle.std.specs.Prelude.{◌≡◌, true, false, [], ◌+◌, ◌-◌, ◌*◌, ◌^◌, ◌≤◌, ◌<◌, T, length, replicate, IfSome};
-ghost use Rattle.std.proofs.Math.Option.{some};
 ghost use Rattle.format.proofs.Wrote.{Wrote};
 ghost use Rattle.format.specs.Machine.{is_word_size};
 ghost use Rattle.format.specs.Leb.{uleb};
@@ -11,17 +10,18 @@ ghost use Rattle.format.specs.Lists.{row_stride, row_at, numbers_of, count, most
 ghost use Rattle.format.specs.CallSites.{site_bytes, site_added};
 ghost use Rattle.format.specs.Records.{record_relocs, set_kind, set_bytes, set_place, set_pair};
 ghost use Rattle.rows.specs.Forms.{operand_bytes};
-ghost use Rattle.lists.specs.Extents.{meant, meant_landing, meant_pair};
+ghost use Rattle.lists.specs.Extents.{meant, meant_landing};
 ghost use Rattle.header_keys.specs.Functions.{LandingsReady, LabelsReady};
+ghost use Rattle.headers.specs.Kinds.{personality_in};
 ghost use Rattle.records.specs.Stepped.{stepped_row_bytes, SteppedRowReady, SurveyedRow, Surveyed};
-ghost use Rattle.records.specs.Fields.{size_in, blank_in, fields_in, sum_in, lsda_in, debug_relocs, eh_relocs, field_relocs};
-ghost use Rattle.records.specs.Labels.{step_pair, steps_in};
+ghost use Rattle.records.specs.Fields.{size_in, lsda_named, blank_in, fields_in, sum_in, lsda_in, debug_relocs, eh_relocs, field_relocs};
+ghost use Rattle.records.specs.Labels.{found_pair, steps_in};
 ghost use Rattle.records.specs.Written.{RunReady, Leading, Others, run_bytes, steps_of, pairs_of, rows_of, fields_of, record_of, function_meant, record_relocs_of};
 
 use header_keys::written::{Function, Run};
 use header_keys::{Kind, kind_of};
 use landing_list::Landings;
-use lists::{Extent, Landing, Pair};
+use lists::{Extent, Landing, Lsda, Pair};
 use numbers::encodings;
 use pair_list::Pairs;
 use rows::row_numbers::RowNumbers;
@@ -34,6 +34,8 @@ pub mod places;
 pub use places::Places;
 
 // ---- call sites
+
+// Kept: sizes beside bytes, here and below, for the reason at the head of headers.
 
 // One entry: a call's start and length, its pad, and the action 0, a cleanup.
 fn site(out: &mut [u8], at: usize, l: Landing) -> usize
@@ -78,6 +80,10 @@ pub fn call_sites_size(at: usize, e: &Extent, landings: &[u64]) -> usize
 }
 
 // ---- rows and the steps between them
+
+// Kept: here and below a loop over rows carries the offset `from` by hand. An iterator would hand out (from, i), since a row is read by its
+// place in the list: a struct, its `next` and its laws for one line in each loop. `surveyed_rows` could not use it, whose rows are not yet
+// known to be rows as `Run` asks.
 
 // Row i and its step, from the offset `from` on.
 fn stepped_row(out: &mut [u8], at: usize, run: &Run, from: u64, i: usize) -> usize
@@ -169,18 +175,22 @@ fn size_field(f: &Function) -> u64
     f.extent.length
 }
 
+// The LSDA that a function's header names.
+#[tactic(auto, unfolding(crate::specs::Fields::lsda_named))]
+fn lsda(e: &Extent) -> Option<Lsda>
+    ensures { result ≡ lsda_named (personality_in e.now) }
+{
+    headers::personality(e)?.lsda
+}
+
 // The blank bytes of the pointer to the call sites.
-#[tactic(auto, unfolding(crate::specs::Fields::blank_in, crate::specs::Fields::pointed, crate::specs::Fields::lsda_by))]
+#[tactic(auto, unfolding(crate::specs::Fields::blank_in, crate::specs::Fields::lsda_by))]
 fn lsda_blank(f: &Function) -> usize
     ensures { (result ≡ blank_in f.now.machine.now.word f.now.extent) × (result ≤ 8) }
 {
-    match kind_of(&f.extent) {
-        Kind::Plain => 0,
-        Kind::Personal => 4,
-        Kind::Named(p) => match p.lsda {
-            Some(l) => numbers::pointer_bytes(f.machine.word, l.encoding) as usize,
-            None => 0,
-        },
+    match lsda(&f.extent) {
+        Some(l) => numbers::pointer_bytes(f.machine.word, l.encoding) as usize,
+        None => 0,
     }
 }
 
@@ -302,6 +312,8 @@ fn set_place(place: u64, form: StepForm) -> u64
 }
 
 // The kind of Set for a form; Sub's is one more.
+// Kept: a kind is the number that the list of relocations takes. The enum of kinds is `apply`'s, which reads such lists and stands above
+// the writer; here it would be made to be turned into its number at once.
 #[tactic(auto, unfolding(format::specs::Records::set_kind))]
 fn set_kind(form: StepForm) -> u64
     ensures { (result ≡ set_kind (operand_bytes form)) × (result ≤ 11) }
@@ -325,11 +337,20 @@ fn set_bytes(form: StepForm) -> u64
     }
 }
 
-// The relocations of a step of a form between the two places of a pair: Set takes the second symbol, Sub the first.
-fn relaxed_advance(out: &mut [u64], i: usize, place: u64, form: StepForm, p: Pair) -> usize
-    requires { (place < 2 ^ 63) × (i + 10 ≤ length out.old) }
-    ensures { Wrote out.old out.new i result (numbers_of (set_pair place (operand_bytes form) (some (meant_pair p)))) }
+// The relocations of a step of a form between the two places of a pair, where there is one: Set takes the second symbol, Sub the first.
+fn relaxed_advance(
+    out: &mut [u64],
+    i: usize,
+    place: u64,
+    form: StepForm,
+    pair: Option<Pair>,
+) -> usize
+    requires { (place < 2 ^ 63) × (i + length (numbers_of (set_pair place (operand_bytes form) (found_pair pair))) ≤ length out.old) }
+    ensures { Wrote out.old out.new i result (numbers_of (set_pair place (operand_bytes form) (found_pair pair))) }
 {
+    let Some(p) = pair else {
+        return i;
+    };
     let at = set_place(place, form);
     let kind = set_kind(form);
     let bytes = set_bytes(form);
@@ -337,64 +358,44 @@ fn relaxed_advance(out: &mut [u64], i: usize, place: u64, form: StepForm, p: Pai
     relocs::relocation(out, a, at, p.symbol1, kind + 1, bytes, 0)
 }
 
-// The relocations of the step from one place to another, whose pair is to be looked for at pair `near`.
-fn step_pair(
-    out: &mut [u64],
-    i: usize,
-    place: u64,
-    from: u64,
-    to: u64,
-    pairs: &Pairs,
-    near: usize,
-) -> usize
-    requires { (place < 2 ^ 63) × (from ≤ to) × (i + length (numbers_of (step_pair place from to (pairs_of pairs.now))) ≤ length out.old) }
-    ensures { Wrote out.old out.new i result (numbers_of (step_pair place from to (pairs_of pairs.now))) }
+#[tactic(auto, unfolding(crate::specs::Labels::found_pair, format::specs::Records::set_pair))]
+fn relaxed_advance_count(pair: Option<Pair>) -> usize
+    ensures { (result ≡ length (set_pair 0 0 (found_pair pair))) × (result ≤ 2) }
 {
-    let Some(p) = pairs.near(near, from, to) else {
-        return i;
-    };
-    relaxed_advance(out, i, place, rows::step_form(to - from), p)
-}
-
-fn step_pair_count(from: u64, to: u64, pairs: &Pairs, near: usize) -> usize
-    ensures { result ≡ length (step_pair 0 from to (pairs_of pairs.now)) }
-{
-    let Some(_) = pairs.near(near, from, to) else {
-        return 0;
-    };
-    2
+    match pair {
+        Some(_) => 2,
+        None => 0,
+    }
 }
 
 // Those of the rows of a run, whose bytes start at `place`.
-fn step_relocs(out: &mut [u64], i: usize, place: u64, run: &Run, pairs: &Pairs) -> usize
-    requires { RunReady run.now × (place < 2 ^ 62) × (i + length (numbers_of (steps_of run.now place (pairs_of pairs.now))) ≤ length out.old) }
-    ensures { Wrote out.old out.new i result (numbers_of (steps_of run.now place (pairs_of pairs.now))) }
+fn step_relocs(out: &mut [u64], i: usize, place: u64, run: &Run, mut pairs: Pairs) -> usize
+    requires { RunReady run.now × (place < 2 ^ 62) × (i + length (numbers_of (steps_of run.now place (pairs_of pairs))) ≤ length out.old) }
+    ensures { Wrote out.old out.new i result (numbers_of (steps_of run.now place (pairs_of pairs.entry))) }
 {
     let mut from = 0;
     let mut p = place;
     let mut q = i;
-    let mut near = pairs.first();
     for k in run.at..run.at + run.n {
         let to = rows::offset_at(run.rows, k);
-        q = step_pair(out, q, p, from, to, pairs, near);
-        near = pairs.next_near(near, to);
+        let pair = pairs.step(from, to);
+        q = relaxed_advance(out, q, p, rows::step_form(to - from), pair);
         p += stepped_row_size(run, from, k) as u64;
         from = to;
     }
     q
 }
 
-fn step_relocs_count(run: &Run, pairs: &Pairs) -> usize
+fn step_relocs_count(run: &Run, mut pairs: Pairs) -> usize
     requires { run.now.n ≤ most_records }
-    ensures { (result ≡ length (steps_in 0 0 0 run.now.rows.now run.now.at run.now.n (pairs_of pairs.now))) × (result ≤ 2 * run.now.n) }
+    ensures { (result ≡ length (steps_in 0 0 0 run.now.rows.now run.now.at run.now.n (pairs_of pairs.entry))) × (result ≤ 2 * run.now.n) }
 {
     let mut from = 0;
     let mut size = 0;
-    let mut near = pairs.first();
     for k in run.at..run.at + run.n {
         let to = rows::offset_at(run.rows, k);
-        size += step_pair_count(from, to, pairs, near);
-        near = pairs.next_near(near, to);
+        let pair = pairs.step(from, to);
+        size += relaxed_advance_count(pair);
         from = to;
     }
     size
@@ -425,6 +426,7 @@ fn sum_count(f: &Function) -> usize
 }
 
 // The pointer to the call sites: to the function's table, or to what a named personality has.
+// Kept: by the kind, and not by `lsda`: with landings the addend is the place of the function's table, with a named personality it is 0.
 fn lsda_reloc(out: &mut [u64], i: usize, f: &Function, place: u64, table: u64) -> usize
     requires { i + length (numbers_of (lsda_in f.now.machine.now.word place table f.now.extent)) ≤ length out.old }
     ensures { Wrote out.old out.new i result (numbers_of (lsda_in f.now.machine.now.word place table f.now.extent)) }
@@ -441,15 +443,11 @@ fn lsda_reloc(out: &mut [u64], i: usize, f: &Function, place: u64, table: u64) -
     }
 }
 
-#[tactic(auto, unfolding(crate::specs::Fields::lsda_in, crate::specs::Fields::pointed, crate::specs::Fields::lsda_by))]
+#[tactic(auto, unfolding(crate::specs::Fields::lsda_in))]
 fn lsda_count(f: &Function) -> usize
     ensures { (result ≡ length (lsda_in 0 0 0 f.now.extent)) × (result ≤ 1) }
 {
-    match kind_of(&f.extent) {
-        Kind::Plain => 0,
-        Kind::Personal => 1,
-        Kind::Named(p) => usize::from(p.lsda.is_some()),
-    }
+    usize::from(lsda(&f.extent).is_some())
 }
 
 // In debug_frame the header's place in the section, the function and its length.
@@ -504,7 +502,7 @@ pub fn record_relocs_count(f: &Function, pairs: &[u64]) -> usize
     let Some(labels) = f.extent.relaxed else {
         return n;
     };
-    n + step_relocs_count(&others(f), &Pairs::of(&labels, pairs))
+    n + step_relocs_count(&others(f), Pairs::of(&labels, pairs))
 }
 
 // Those of a record: of the fields, then of the steps.
@@ -517,5 +515,5 @@ pub fn record_relocs(out: &mut [u64], i: usize, f: &Function, p: &Places, pairs:
         return a;
     };
     let place = p.at + 4 + fields_size(f);
-    step_relocs(out, a, place as u64, &others(f), &Pairs::of(&labels, pairs))
+    step_relocs(out, a, place as u64, &others(f), Pairs::of(&labels, pairs))
 }

@@ -18,6 +18,8 @@ pub const RELOCATION_BYTES: usize = 3;
 pub const RELOCATION_ADDEND: usize = 4;
 
 // The kinds of relocation (document 01, "Record"). The kind of a Sub is one more than that of its Set.
+// Kept: kinds by number: `relocation` is public and stores any; of a pair of Set and Sub the second is the first's plus 1 (records). Only apply tells
+// them apart, by its Kind.
 pub const DATA: u64 = 0;
 
 pub const ADDRESS: u64 = 1;
@@ -56,6 +58,8 @@ pub fn number(out: &mut [u64], at: usize, v: u64) -> usize
 }
 
 // A relocation: five numbers.
+// Kept: one by one, and no struct. No function keeps or passes on a relocation: each of the calls, in headers, records, x64 and arm64_table, would
+// build one for this call alone, in seven lines for one.
 pub fn relocation(
     out: &mut [u64],
     at: usize,

@@ -1,7 +1,7 @@
 // A row out of the lists, written and sized as an operation. Ported from rucc-asm/src/unwind.rs (row, saved, advance) of tamnd/rucc, changed: see NOTICE.
 #![tactic(auto)]
 
-ghost use Rattle.std.specs.Prelude.{◌≡◌, [], ◌∷◌, ◌++◌, true, ◌+◌, ◌*◌, ◌%◌, ◌^◌, ◌≤◌, ◌<◌, length, T, eqb, nat_abs};
+ghost use Rattle.std.specs.Prelude.{◌≡◌, [], ◌∷◌, ◌++◌, true, ◌+◌, ◌*◌, ◌%◌, ◌^◌, ◌≤◌, ◌<◌, length, T, eqb, ltb, nat_abs};
 ghost use Rattle.std.specs.Int.{w32};
 ghost use Rattle.std.specs.Option.{IfSome};
 ghost use Rattle.std.proofs.Common.{to_z};
@@ -52,9 +52,12 @@ const TWO_BYTES: u64 = 16384;
 
 // ---- a row out of the lists
 
+// Kept: each public function here takes a list and a row's place and says itself that the row lies in the list: a struct of both would ask more of
+// its callers by type.
+
 // The offset of row i.
 pub fn offset_at(rows: &[u64], i: usize) -> u64
-    requires { 4 * i + 4 ≤ length rows.now }
+    requires { row_stride * i + row_stride ≤ length rows.now }
     ensures { result ≡ field row_stride rows.now i 0 }
 {
     rows[ROW_STRIDE * i]
@@ -70,13 +73,15 @@ fn signed32(x: u64) -> i64
 
 // Row i.
 pub fn row_at(rows: &[u64], i: usize) -> Row
-    requires { (4 * i + 4 ≤ length rows.now) × T (row_ok_at rows.now i) }
+    requires { (row_stride * i + row_stride ≤ length rows.now) × T (row_ok_at rows.now i) }
     ensures { result ≡ (row_at rows.now i).1 }
 {
     RowNumbers::at(rows, i).row()
 }
 
 // How many registers and how many second operands a kind may name.
+// Kept: kinds by number, here and in `short_size` and `RowNumbers`. One test against the last kind bounds it; an enum would be made by a match of
+// eleven arms for each row that is asked, and matched again where it is used.
 #[tactic(auto, unfolding(format::specs::Lists::has_register, format::specs::Prelude::pick))]
 fn registers(kind: u64) -> u64
     ensures { result ≡ pick (has_register kind) 65536 1 }
@@ -118,7 +123,7 @@ fn second_operands(kind: u64) -> u64
 // The three numbers behind the offset of row i are a row.
 #[tactic(auto, unfolding(format::specs::Lists::row_ok_at, format::specs::Lists::row_ok))]
 pub fn row_ok(rows: &[u64], i: usize) -> bool
-    requires { 4 * i + 4 ≤ length rows.now }
+    requires { row_stride * i + row_stride ≤ length rows.now }
     ensures { result ≡ row_ok_at rows.now i }
 {
     let kind = rows[ROW_STRIDE * i + ROW_KIND];
@@ -134,6 +139,7 @@ pub fn row_ok(rows: &[u64], i: usize) -> bool
 // ---- questions of one row
 
 // z without its sign.
+// Kept: `unsigned_abs` by a name of this crate, since the function is public (owners calls it); the rows' own question calls the method.
 pub fn size(z: i64) -> u64
     ensures { (result ≡ nat_abs z) × (result ≤ 2 ^ 63) }
 {
@@ -141,12 +147,13 @@ pub fn size(z: i64) -> u64
 }
 
 // A multiple of the word.
+// Kept: a number, and no Word, in the four functions up to `row_whole`: that is public and takes any word but 0, where a Word has 2 to 8 bytes (D124).
 #[tactic(auto, unfolding(format::specs::Rows::whole))]
 fn multiple(word: u64, z: i64) -> bool
     requires { 0 < word }
     ensures { result ≡ whole word z }
 {
-    size(z) % word == 0
+    z.unsigned_abs() % word == 0
 }
 
 // The same; by 8 without a division.
@@ -261,7 +268,7 @@ pub fn offset(r: Row) -> i64
         Row::RestoreState => 0,
         Row::NegateRaState => 0,
         Row::SameValue(_) => 0,
-        Row::InRegister(_, other) => other as i64,
+        Row::InRegister(_, other) => i64::from(other),
     }
 }
 
@@ -324,7 +331,7 @@ fn def_cfa(out: &mut [u8], at: usize, word: Word, reg: u16, z: i64) -> usize
         at,
         by_sign(opcodes::DW_CFA_DEF_CFA, opcodes::DW_CFA_DEF_CFA_SF, z),
     );
-    let b = leb::uleb(out, a, reg as u64);
+    let b = leb::uleb(out, a, u64::from(reg));
     frame_offset(out, b, word, z)
 }
 
@@ -353,14 +360,14 @@ fn opcode(out: &mut [u8], at: usize, short: u8, long: u8, reg: u16) -> usize
         return leb::byte(out, at, short + reg as u8);
     }
     let a = leb::byte(out, at, long);
-    leb::uleb(out, a, reg as u64)
+    leb::uleb(out, a, u64::from(reg))
 }
 
 fn opcode_size(reg: u16) -> usize
     ensures { result ≡ length (with_register 0 0 reg []) }
 {
     if MOST_REGISTER_IN_OPCODE < reg {
-        return 1 + leb::uleb_size(reg as u64);
+        return 1 + leb::uleb_size(u64::from(reg));
     }
     1
 }
@@ -371,7 +378,7 @@ fn named(out: &mut [u8], at: usize, code: u8, reg: u16) -> usize
     ensures { Wrote out.old out.new at result (code ∷ uleb reg) }
 {
     let a = leb::byte(out, at, code);
-    leb::uleb(out, a, reg as u64)
+    leb::uleb(out, a, u64::from(reg))
 }
 
 // A register whose value is in another one.
@@ -380,7 +387,7 @@ fn in_register(out: &mut [u8], at: usize, reg: u16, other: u16) -> usize
     ensures { Wrote out.old out.new at result (0x09 ∷ (uleb reg ++ uleb other)) }
 {
     let a = named(out, at, opcodes::DW_CFA_REGISTER, reg);
-    leb::uleb(out, a, other as u64)
+    leb::uleb(out, a, u64::from(other))
 }
 
 // A register saved at an offset that is factored already.
@@ -406,7 +413,7 @@ pub fn saved_size(reg: u16, z: i64) -> usize
     ensures { result ≡ length (saved_bytes reg z) }
 {
     if z < 0 {
-        return 1 + leb::uleb_size(reg as u64) + leb::sleb_size(z);
+        return 1 + leb::uleb_size(u64::from(reg)) + leb::sleb_size(z);
     }
     opcode_size(reg) + leb::uleb_size(z as u64)
 }
@@ -441,19 +448,19 @@ pub fn row_size(word: Word, r: Row) -> usize
     ensures { result ≡ length (row_bytes word.bytes r) }
 {
     match r {
-        Row::DefCfa(reg, z) => 1 + leb::uleb_size(reg as u64) + frame_offset_size(word, z),
+        Row::DefCfa(reg, z) => 1 + leb::uleb_size(u64::from(reg)) + frame_offset_size(word, z),
         Row::DefCfaOffset(z) => 1 + frame_offset_size(word, z),
-        Row::DefCfaRegister(reg) => 1 + leb::uleb_size(reg as u64),
+        Row::DefCfaRegister(reg) => 1 + leb::uleb_size(u64::from(reg)),
         Row::Offset(reg, z) => saved_size(reg, factored(word, z)),
         Row::Restore(reg) => opcode_size(reg),
-        Row::Undefined(reg) => 1 + leb::uleb_size(reg as u64),
+        Row::Undefined(reg) => 1 + leb::uleb_size(u64::from(reg)),
         Row::RememberState => 1,
         Row::RestoreState => 1,
         Row::NegateRaState => 1,
-        Row::SameValue(reg) => 1 + leb::uleb_size(reg as u64),
+        Row::SameValue(reg) => 1 + leb::uleb_size(u64::from(reg)),
         Row::InRegister(reg, other) => 1
-            + leb::uleb_size(reg as u64)
-            + leb::uleb_size(other as u64),
+            + leb::uleb_size(u64::from(reg))
+            + leb::uleb_size(u64::from(other)),
     }
 }
 
@@ -507,7 +514,7 @@ fn second_byte(word: u64, y: u64) -> usize
 
 // The size of row i's operation, where the row passes questions 13 and 24. None says nothing.
 pub fn surveyed(word: u64, rows: &[u64], i: usize) -> Option<usize>
-    requires { T (is_word_size word) × (4 * i + 4 ≤ length rows.now) }
+    requires { T (is_word_size word) × (row_stride * i + row_stride ≤ length rows.now) }
     ensures { IfSome result (λ n. T (row_ok_at rows.now i) × (row_whole word (row_at rows.now i).1 ≡ true) × (n ≡ length (row_bytes word (row_at rows.now i).1))) }
 {
     if !row_ok(rows, i) {
@@ -522,13 +529,13 @@ pub fn surveyed(word: u64, rows: &[u64], i: usize) -> Option<usize>
 
 // ---- a step written, and its size
 
-// The forms of a step: inside the opcode, or as an operand behind it.
+// The forms of a step: inside the opcode, or as an operand of so many bytes behind it.
 #[derive(Clone, Copy, PartialEq, Eq)]
 pub enum StepForm {
-    InOpcode,
-    OneByte,
-    TwoBytes,
-    FourBytes,
+    InOpcode = 0,
+    OneByte = 1,
+    TwoBytes = 2,
+    FourBytes = 4,
 }
 
 impl StepForm {
@@ -538,12 +545,7 @@ impl StepForm {
     pub fn operand_bytes(self) -> usize
         ensures { result ≡ operand_bytes self }
     {
-        match self {
-            StepForm::InOpcode => 0,
-            StepForm::OneByte => 1,
-            StepForm::TwoBytes => 2,
-            StepForm::FourBytes => 4,
-        }
+        self as usize
     }
 }
 
@@ -634,6 +636,13 @@ pub fn advance_size(by: u64) -> usize
     1 + step_form(by).operand_bytes()
 }
 
+// A step of so many bytes has 32 bits.
+pub fn step_ok(by: u64) -> bool
+    ensures { result ≡ ltb by (2 ^ 32) }
+{
+    by < STEPS
+}
+
 // The size of a step that passes question 23. Most steps have a byte.
 pub fn step_surveyed(by: u64) -> Option<usize>
     ensures { StepSurveyed by result }
@@ -644,7 +653,7 @@ pub fn step_surveyed(by: u64) -> Option<usize>
         }
         return Some(1);
     }
-    if STEPS <= by {
+    if !step_ok(by) {
         return None;
     }
     Some(advance_size(by))

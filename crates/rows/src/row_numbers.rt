@@ -2,7 +2,7 @@
 
 ghost use Rattle.std.specs.Prelude.{◌≡◌, true, ◌+◌, ◌*◌, ◌≤◌, length, T};
 ghost use Rattle.format.specs.Machine.{is_word_size};
-ghost use Rattle.format.specs.Lists.{row_ok, row_of, row_at, row_ok_at};
+ghost use Rattle.format.specs.Lists.{row_stride, row_ok, row_of, row_at, row_ok_at};
 ghost use Rattle.format.specs.Rows.{row_bytes, row_whole};
 ghost use Rattle.format.proofs.Wrote.{Wrote};
 
@@ -19,37 +19,13 @@ pub struct RowNumbers {
     ghost ok: { T (row_ok kind register operand) },
 }
 
-// The size of the operation of a row that its numbers say, by kind.
-// Kept: beside `row_size`, and the numbers one by one. `row_size(word, self.row())` in its place takes 3 instructions more for each row that is
-// sized: the row's place on the stack is made ready in front of the tests (tried). The writer's bar is 0.7 of the Rust's time, and it takes 0.92
-// (docs/PERFORMANCE.md).
-fn size_by_kind(word: Word, kind: u64, register: u64, operand: u64) -> usize
-    requires { T (row_ok kind register operand) }
-    ensures { result ≡ length (row_bytes word.bytes (row_of kind register operand)) }
-{
-    let z = crate::signed32(operand);
-    match kind {
-        kinds::DEF_CFA => 1 + leb::uleb_size(register) + crate::frame_offset_size(word, z),
-        kinds::DEF_CFA_OFFSET => 1 + crate::frame_offset_size(word, z),
-        kinds::DEF_CFA_REGISTER => 1 + leb::uleb_size(register),
-        kinds::OFFSET => crate::saved_size(register as u16, crate::factored(word, z)),
-        kinds::RESTORE => crate::opcode_size(register as u16),
-        kinds::UNDEFINED => 1 + leb::uleb_size(register),
-        kinds::REMEMBER_STATE => 1,
-        kinds::RESTORE_STATE => 1,
-        kinds::SAME_VALUE => 1 + leb::uleb_size(register),
-        kinds::IN_REGISTER => 1 + leb::uleb_size(register) + leb::uleb_size(operand),
-        _ => 1,
-    }
-}
-
 impl RowNumbers {
     ghost use Rattle.rows.specs.Meanings.{means};
 
     // Those of row i.
     #[tactic(auto, unfolding(format::specs::Lists::row_at, format::specs::Lists::row_ok_at))]
     pub fn at(rows: &[u64], i: usize) -> RowNumbers
-        requires { (4 * i + 4 ≤ length rows.now) × T (row_ok_at rows.now i) }
+        requires { (row_stride * i + row_stride ≤ length rows.now) × T (row_ok_at rows.now i) }
         ensures { means result ≡ (row_at rows.now i).1 }
     {
         RowNumbers {
@@ -96,7 +72,7 @@ impl RowNumbers {
 
     // The row's operation.
     // Kept: beside `row`. By `row(out, at, word, self.row())` a row is stored, passed on and matched again, 29 instructions more of some 115 for each
-    // row (tried); the writer takes 0.92 of the Rust's time (docs/PERFORMANCE.md), and would take more than all of it.
+    // row (tried); the writer takes 0.85 to 0.86 of the Rust's time (docs/PERFORMANCE.md), and would take more than all of it.
     // Kept: a writer's buffer and place, as in leb.
     pub fn put(self, out: &mut [u8], at: usize, word: Word) -> usize
         requires { at + length (row_bytes word.bytes (means self)) ≤ length out.old }
@@ -125,16 +101,25 @@ impl RowNumbers {
         }
     }
 
+    // The size of a row that has a number of more bytes than `size` counts without a jump by kind. It stays a call, so that a row's place on the
+    // stack is made ready for these few rows alone.
+    #[inline(never)]
+    fn size_by_kind(self, word: Word) -> usize
+        ensures { result ≡ length (row_bytes word.bytes (means self)) }
+    {
+        crate::row_size(word, self.row())
+    }
+
     // Its size; without a jump by kind where the register has a byte at most and the second operand two.
     pub fn size(self, word: Word) -> usize
         ensures { result ≡ length (row_bytes word.bytes (means self)) }
     {
         let y = crate::scaled(word.bytes, self.kind, self.operand);
         if crate::MOST_IN_OPCODE < self.register {
-            return size_by_kind(word, self.kind, self.register, self.operand);
+            return self.size_by_kind(word);
         }
         if crate::TWO_BYTES * word.bytes <= y {
-            return size_by_kind(word, self.kind, self.register, self.operand);
+            return self.size_by_kind(word);
         }
         crate::short_size(self.kind) + crate::second_byte(word.bytes, y)
     }

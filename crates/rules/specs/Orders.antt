@@ -1,6 +1,8 @@
 -- What the state of the row check means: the part of the check that is left.
-use Rattle.std.specs.Prelude.{◌≡◌, ℕ, Bool, true, false, ◌&&◌, List, ◌∷◌, reverse, eqb, Option, Some, None}
-use Rattle.format.specs.Prelude.{pick, all}
+use Rattle.std.specs.Prelude.{◌≡◌, ℕ, ◌+◌, ◌<◌, ◌≤◌, Bool, true, false, ◌&&◌, List, ◌∷◌, reverse, eqb, Option, Some, None}
+use Rattle.std.specs.Bool.{then_some}
+use Rattle.format.specs.Prelude.{pick, all, each}
+use Rattle.format.specs.Lists.{all_in}
 use Rattle.format.specs.declared.Row.{Row}
 use Rattle.format.specs.Rows.{RowAt}
 use Rattle.format.specs.Headers.{ahead}
@@ -31,3 +33,20 @@ passing ok o first framed = pick ok (Some (record { leading = first; framed = fr
 -- what a row does, where `first` says that it is at offset 0 behind rows that all lead: whatever rows follow, it decides with them
 pub record Steps (o : Order) (first : Bool) (r : Row) (s : Option Order) : Type 0 where
   pub decides : (offset : ℕ) → first ≡ o.leading && eqb offset 0 → (xs : List RowAt) → follow o ((offset, r) ∷ xs) ≡ follow_some s xs
+
+-- the check of a row, or of what is no row, and of the rows that follow it
+abbrev pub follow_given : Order → Option RowAt → List RowAt → Bool
+follow_given o None xs = false
+follow_given o (Some x) xs = follow o (x ∷ xs)
+
+-- what a row, or what is none, does: whatever rows follow, it decides with them
+pub record Follows (o : Order) (given : Option RowAt) (s : Option Order) : Type 0 where
+  pub decides : (xs : List RowAt) → follow_given o given xs ≡ follow_some s xs
+
+-- Of the n places from `at` on a call gives the row, where ok says that there is one.
+abbrev pub Gives : (post : ℕ → Option RowAt → Type 0) (ok : ℕ → Bool) (rows : ℕ → RowAt) (at n : ℕ) → Type 0
+Gives post ok rows at n = (i : ℕ) (r : Option RowAt) → at ≤ i → i < at + n → post i r → r ≡ then_some (ok i) (rows i)
+
+-- each of them is a row, and they pass the row check
+unfoldable pub all_follow : (simple : Bool) (ok : ℕ → Bool) (rows : ℕ → RowAt) (at n : ℕ) → Bool
+all_follow simple ok rows at n = all_in ok at n && row_check simple (each rows at n)

@@ -19,7 +19,8 @@ use Rattle.format.specs.Questions.{is_some}
 use Rattle.format.specs.Reader.{Entry, entries, is_header, records}
 use Rattle.reader.specs.Spans.{entry_in, entries_from, listed, Ends, Ahead}
 use Rattle.reader.proofs.Tiling.{tiled_end}
-use Rattle.reader.proofs.Seeking.{first_ahead, header_later, kth_header}
+use Rattle.reader.proofs.Seeking.{first_ahead, header_later}
+use Rattle.reader.proofs.Searches.{records_header}
 use Rattle.section_check.specs.Check.{passes, saying, check_from}
 use Rattle.section_check.specs.Places.{Marks, marked, mark_before, passes_in}
 use Rattle.section_check.proofs.Entries.{passes_same}
@@ -167,7 +168,7 @@ module _ {s : List ℕ} {word : ℕ} {marks : List ℕ} {k at : ℕ} (i : Passin
         few = omega (arith, e.long, i.few);
         tiles = i.tiles;
         rest = i.rest ∙ rw e.rest (ap (check_from s word k) (skipped s at end t));
-        numbered = λ n. i.numbered n ∙ rw e.rest (kth_header false (entry_in s at end) (listed (entries_from s end)) n t);
+        numbered = λ n. i.numbered n ∙ rw e.rest (ap (λ (es : List Entry). get_elem? es n) (records_header false (entry_in s at end) (listed (entries_from s end)) t));
         ahead = ahead_on i.ahead e;
         marks_ahead = marks_on step same;
       }

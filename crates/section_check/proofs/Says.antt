@@ -1,6 +1,6 @@
 -- What the check means. An answer for register 0 at the last offset is one for every register at every offset below the length, so the test of a record is what is asked of it.
 use mathlib.Core.Path.{◌≡◌, refl, ap, ◌∙◌}
-use mathlib.Core.Bool.{Bool, true, false, not}
+use mathlib.Core.Bool.{Bool, true, false, not, ◌&&◌}
 use mathlib.Core.Option.{Option, none, some}
 use mathlib.Core.List.{List, [], ◌∷◌}
 use Prim.Native.Nat.{ℕ, zero, suc, ◌+◌, ◌≤◌, ◌<◌}
@@ -74,6 +74,11 @@ record FirstOf (section : List ℕ) (word k : ℕ) (es : List Entry) (r : ℕ) :
 refuted : (b : Bool) → T (not b) → T b → ⊥
 refuted true n t = absurd n
 refuted false n t = absurd t
+
+-- the word, by question 11 of an eh_frame section
+pub word_asked : (b : Bool) {c : Bool} → b && true ≡ c → b ≡ c
+word_asked true e = e
+word_asked false e = e
 
 over : (section : List ℕ) (word : ℕ) (o : Option (List Entry)) → T (is_some o) → check_from section word 0 (records false (listed o)) ≡ check_entries section word o
 unfolding is_some listed check_entries

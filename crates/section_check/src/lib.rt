@@ -15,9 +15,13 @@ use crate::marks::{Passed, Stretches};
 use format::{Question, Refusal};
 use operations::fields::{Position, read_le};
 use reader::entries::Entries;
-use reader::section::{Layout, Section, Span};
+use reader::section::{Section, Span};
 
 pub mod marks;
+
+// The kind of an eh_frame section.
+// Kept: a number, since `reader::section_of` takes any that C hands in.
+const EH_FRAME: u64 = 0;
 
 // What is answered: 0, or 11, 61 or 84; with 84 the first record that does not pass, counted from 0.
 // Kept: a number beside the record's, since C reads it.
@@ -28,9 +32,28 @@ pub struct Checked {
     pub record: u64,
 }
 
+impl From<Result<(), Refusal>> for Checked {
+    ghost from_gives = { λ r c. c ≡ checked_of r };
+
+    #[tactic(auto, unfolding(crate::specs::Check::saying))]
+    fn from(answer: Result<(), Refusal>) -> Checked {
+        match answer {
+            Ok(()) => Checked {
+                number: 0,
+                record: 0,
+            },
+            Err(refusal) => Checked {
+                number: refusal.question.number(),
+                record: refusal.position,
+            },
+        }
+    }
+}
+
 // ---- the header of a record
 
 // A section has a mark for each stretch of `step` bytes: the first entry that starts in it.
+// Kept: `mark` and `mark_before` beside the methods of Stretches, which call them: public, for any slice (D127).
 pub fn mark(marks: &mut [usize], step: usize, at: usize)
     requires { 0 < step }
     ensures { marks.new ≡ marked step at marks.old }
@@ -76,11 +99,7 @@ fn size_of(s: &[u8], fde: Span) -> Option<u64>
 {
     let body = fde.at + 4;
     let end = fde.end;
-    let length = Position {
-        at: 8,
-        shortest: true,
-    };
-    let (n, _) = read_le(&s[body..end], length, 4)?;
+    let (n, _) = read_le(&s[body..end], Position::from(8), 4)?;
     Some(n)
 }
 
@@ -127,6 +146,8 @@ impl<'a> Passed<'a> {
 // ---- the section
 
 // The records, one after the other: 84 with the first that does not pass.
+// Kept: over the entries, and not over `Records`. A header is marked too: where it is the first entry of its stretch, which in a section of many headers
+// most are, the search for it would start at 0 else. So k is counted by hand: the loop goes over all entries, and `enumerate` would count the headers.
 fn check_records(section: &Section) -> Result<(), Refusal>
     requires { (section.now.layout.debug ≡ false) × T (is_some (entries section.now.bytes.now)) }
     ensures { checked_of result ≡ check_from section.now.bytes.now section.now.layout.word 0 (records false (listed (entries section.now.bytes.now))) }
@@ -162,24 +183,13 @@ fn check_records(section: &Section) -> Result<(), Refusal>
 fn check(section: &[u8], word: u64) -> Result<(), Refusal>
     ensures { checked_of result ≡ check_section section.now word }
 {
-    if !numbers::is_word(word) {
-        return Err(Refusal {
-            question: Question::Interface,
-            position: 0,
-        });
-    }
-    if !reader::entries::tiles(section) {
-        return Err(Refusal {
-            question: Question::Tiling,
-            position: 0,
-        });
-    }
     let none = [];
-    let section = Section {
-        bytes: section,
-        relocations: &none,
-        layout: Layout { debug: false, word },
+    let Some(section) = reader::section_of(section, &none, EH_FRAME, word) else {
+        return Err(Refusal::from(Question::Interface));
     };
+    if !reader::entries::tiles(section.bytes) {
+        return Err(Refusal::from(Question::Tiling));
+    }
     check_records(&section)
 }
 
@@ -189,14 +199,5 @@ pub extern "C" fn unwind_check_section(section: &[u8], word: u64) -> Checked
     ensures value { result ≡ check_section section.now word }
     ensures means { Means section.now word result }
 {
-    match check(section, word) {
-        Ok(()) => Checked {
-            number: 0,
-            record: 0,
-        },
-        Err(refusal) => Checked {
-            number: refusal.question.number(),
-            record: refusal.position,
-        },
-    }
+    Checked::from(check(section, word))
 }

@@ -13,8 +13,7 @@ ghost use Rattle.sites_back.specs.Back.{table_place, ReadBack};
 use call_sites::Site;
 use lists::output::WrittenAnd;
 use reader::{entries, location};
-
-const ELF: u64 = 0;
+use unwind::Format;
 
 // A record's pointer to call sites stands this far behind its start.
 const POINTER_FIELD: usize = 17;
@@ -34,7 +33,9 @@ fn table_place(section: &[u8], relocations: &[u64], k: u64) -> Option<u64>
 // eh_frame's writer, and then the reader of call sites on what it wrote, at the place that the relocation of function k's record names. Where
 // the list was accepted and function k has landings whose ends fit 64 bits, the site is the first of them that covers the offset, or
 // none where none does, and the table's numbers are spelled shortest.
-// Kept: the lists one by one, since the promises of the entries that it calls name each of them.
+// Kept: the lists one by one. `Writes` and `ReadBack` of the theorem in README name each of them; in `lists::Lists` and `lists::output::Output`
+// each clause would name a field of another value (`to.old.places.now`), and one more would say that the caller's own lists are lent in it
+// still (`SameLists`).
 pub fn write_and_read_site(
     machine: &[u64],
     functions: &[u64],
@@ -53,7 +54,7 @@ pub fn write_and_read_site(
 {
     let outcome = unwind::relaxed_table(
         machine,
-        ELF,
+        u64::from(Format::Elf),
         functions,
         rows,
         landings,

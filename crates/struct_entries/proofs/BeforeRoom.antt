@@ -10,6 +10,8 @@ use lib.Dec.{eqb}
 use borrow.Author.Tests.{eq-eqb, ne_eqb, le-leb, lt-leb}
 use Rattle.format.specs.Prelude.{pick}
 use Rattle.format.specs.Coded.{Outcome}
+use Rattle.format.specs.Numbers.{number_of}
+use Rattle.format.specs.declared.question.Question.TheVariants.{OtherRoom, Interface, X64Word}
 use Rattle.std.specs.Prelude.{None, Ok, Err}
 use Rattle.format.specs.declared.Section.TheVariants.{Elf, Debug}
 use Rattle.format.specs.Machine.{machine_of, machine_ok}
@@ -51,35 +53,61 @@ module _ (format f : ℕ) (machine : List ℕ) where
     table_no_mach_o e = rw (ne_eqb f 0 h, lt-leb 3 format (omega arith), eq-eqb format 2 e) refl
 
     module _ (l : format < 3) (m : format ≢ 2) where
-      pub table_no_machine : machine_ok machine ≡ false → Err (11, 0) ≡ table
+      table_no_machine : machine_ok machine ≡ false → Err (11, 0) ≡ table
       unfolding once_ready table_is_empty table_asks unless and_then ask pick outcome_of
       table_no_machine e = rw (ne_eqb f 0 h, lt-leb 3 format l, ne_eqb format 2 m, le-leb format 4 (omega arith), e) refl
 
       module _ (ok : machine_ok machine ≡ true) where
-        pub table_no_word : format ≡ 1 → eqb (machine_of machine).word 8 ≡ false → Err (12, 0) ≡ table
+        table_no_word : format ≡ 1 → eqb (machine_of machine).word 8 ≡ false → Err (12, 0) ≡ table
         unfolding once_ready table_is_empty table_asks unless and_then ask pick outcome_of
         table_no_word e w = rw (ne_eqb f 0 h, lt-leb 3 format l, ne_eqb format 2 m, le-leb format 4 (omega arith), ok, eq-eqb format 1 e, w) refl
 
-        pub table_unready_coff : format ≡ 1 → eqb (machine_of machine).word 8 ≡ true → Err (54, 0) ≡ table
+        table_unready_coff : format ≡ 1 → eqb (machine_of machine).word 8 ≡ true → Err (54, 0) ≡ table
         unfolding once_ready table_is_empty table_asks unless and_then ask pick outcome_of
         table_unready_coff e w = rw (ne_eqb f 0 h, lt-leb 3 format l, ne_eqb format 2 m, le-leb format 4 (omega arith), ok, eq-eqb format 1 e, w) refl
 
-        pub table_unready : format ≢ 1 → Err (54, 0) ≡ table
+        table_unready : format ≢ 1 → Err (54, 0) ≡ table
         unfolding once_ready table_is_empty table_asks unless and_then ask pick outcome_of
         table_unready e = rw (ne_eqb f 0 h, lt-leb 3 format l, ne_eqb format 2 m, le-leb format 4 (omega arith), ok, ne_eqb format 1 e) refl
+
+    elf_by : format ≡ 0 → (ok : Bool) → machine_ok machine ≡ ok → Err (number_of (pick ok OtherRoom Interface), 0) ≡ table
+    unfolding pick
+    elf_by e true m = table_unready (omega arith) (λ k. omega arith) m (λ k. omega arith)
+    elf_by e false m = table_no_machine (omega arith) (λ k. omega arith) m
+
+    pub table_elf : format ≡ 0 → Err (number_of (pick (machine_ok machine) OtherRoom Interface), 0) ≡ table
+    table_elf e = elf_by e (machine_ok machine) refl
+
+    coff_by : format ≡ 1 → (ok word : Bool) → machine_ok machine ≡ ok → eqb (machine_of machine).word 8 ≡ word
+        → Err (number_of (pick ok (pick word OtherRoom X64Word) Interface), 0) ≡ table
+    unfolding pick
+    coff_by e true true m w = table_unready_coff (omega arith) (λ k. omega arith) m e w
+    coff_by e true false m w = table_no_word (omega arith) (λ k. omega arith) m e w
+    coff_by e false word m w = table_no_machine (omega arith) (λ k. omega arith) m
+
+    pub table_coff : format ≡ 1 → Err (number_of (pick (machine_ok machine) (pick (eqb (machine_of machine).word 8) OtherRoom X64Word) Interface), 0) ≡ table
+    table_coff e = coff_by e (machine_ok machine) (eqb (machine_of machine).word 8) refl refl
 
     pub debug_frame_other : format ≢ 0 → (Ok None) ≡ debug_frame
     unfolding once_ready debug_frame_is_empty pick outcome_of
     debug_frame_other e = rw (ne_eqb f 0 h, ne_eqb format 0 e) refl
 
     module _ (e : format ≡ 0) where
-      pub debug_frame_no_machine : machine_ok machine ≡ false → Err (11, 0) ≡ debug_frame
+      debug_frame_no_machine : machine_ok machine ≡ false → Err (11, 0) ≡ debug_frame
       unfolding once_ready debug_frame_is_empty debug_frame_asks unless and_then ask pick outcome_of
       debug_frame_no_machine ok = rw (ne_eqb f 0 h, eq-eqb format 0 e, ok) refl
 
-      pub debug_frame_unready : machine_ok machine ≡ true → Err (54, 0) ≡ debug_frame
+      debug_frame_unready : machine_ok machine ≡ true → Err (54, 0) ≡ debug_frame
       unfolding once_ready debug_frame_is_empty debug_frame_asks unless and_then ask pick outcome_of
       debug_frame_unready ok = rw (ne_eqb f 0 h, eq-eqb format 0 e, ok) refl
+
+      debug_by : (ok : Bool) → machine_ok machine ≡ ok → Err (number_of (pick ok OtherRoom Interface), 0) ≡ debug_frame
+      unfolding pick
+      debug_by true m = debug_frame_unready m
+      debug_by false m = debug_frame_no_machine m
+
+      pub debug_frame_elf : Err (number_of (pick (machine_ok machine) OtherRoom Interface), 0) ≡ debug_frame
+      debug_frame_elf = debug_by (machine_ok machine) refl
 
 -- ---- where it is ready they change nothing: a writer asks them itself
 

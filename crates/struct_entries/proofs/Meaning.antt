@@ -12,7 +12,7 @@ use Rattle.struct_entries.specs.declared.RowAt.{RowAt}
 use Rattle.struct_entries.specs.declared.Function.{Function}
 use Rattle.struct_entries.specs.Structs.{row_numbers, function_numbers, numbers_of}
 use Rattle.struct_entries.proofs.Stored.{length_numbers}
-use Rattle.struct_entries.proofs.Strides.{row_stride_lem, function_stride_lem}
+use Rattle.struct_entries.specs.Structs.{row_length, function_length}
 
 -- what stands past the end
 abbrev pub none : RowAt
@@ -37,19 +37,19 @@ number_at_lem one {stride} even d (y ∷ ys) (suc i) j h k =
 -- ---- functions
 
 pub function_count : (fs : List Function) → count function_stride (numbers_of function_numbers fs) ≡ length fs
-function_count fs = let e = length_numbers function_numbers function_stride_lem fs in omega arith
+function_count fs = let e = length_numbers function_numbers function_length fs in omega arith
 
 pub function_number : (fs : List Function) (k j : ℕ) (d : Function) → k < length fs → j < 18
     → field function_stride (numbers_of function_numbers fs) k j ≡ get_or (function_numbers (get_or fs k d)) j 0
-function_number fs k j d h l = number_at_lem function_numbers function_stride_lem d fs k j h l
+function_number fs k j d h l = number_at_lem function_numbers function_length d fs k j h l
 
 -- ---- rows
 
 pub row_count : (ys : List RowAt) → count row_stride (all_of ys) ≡ length ys
-row_count ys = let e = length_numbers row_numbers row_stride_lem ys in omega arith
+row_count ys = let e = length_numbers row_numbers row_length ys in omega arith
 
 row_number : (ys : List RowAt) (i j : ℕ) → i < length ys → j < 4 → field row_stride (all_of ys) i j ≡ get_or (row_numbers (get_or ys i none)) j 0
-row_number ys i j h l = number_at_lem row_numbers row_stride_lem none ys i j h l
+row_number ys i j h l = number_at_lem row_numbers row_length none ys i j h l
 
 module _ (ys : List RowAt) (i : ℕ) (h : i < length ys) where
   pub row_ok : row_ok_at (all_of ys) i ≡ row_ok_at (row_numbers (get_or ys i none)) 0

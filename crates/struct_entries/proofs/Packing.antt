@@ -17,7 +17,7 @@ use Rattle.struct_entries.specs.declared.Function.{Function}
 use Rattle.struct_entries.specs.Structs.{row_numbers, function_numbers, numbers_of}
 use Rattle.struct_entries.specs.Packed.{stored_all}
 use Rattle.struct_entries.proofs.Stored.{together, length_numbers}
-use Rattle.struct_entries.proofs.Strides.{row_stride_lem, function_stride_lem}
+use Rattle.struct_entries.specs.Structs.{row_length, function_length}
 use Rattle.unwind.specs.declared.Written.{Written}
 use Rattle.unwind.specs.Entries.{Exports}
 use Rattle.struct_entries.specs.Entries.{needed, is_zero, ready_for, cleared, packed, numbers_in, meant, once_ready, table_is_empty, table_asks, relaxed_table_of, debug_frame_is_empty, debug_frame_asks, relaxed_debug_frame_of}
@@ -65,10 +65,10 @@ module _ (xs : List ℕ) (fs : List Function) (rs : List RowAt) where
   ns = numbers_in fs rs
 
   functions_long : length F ≡ 18 * f
-  functions_long = length_numbers function_numbers function_stride_lem fs
+  functions_long = length_numbers function_numbers function_length fs
 
   rows_long : length R ≡ 4 * r
-  rows_long = length_numbers row_numbers row_stride_lem rs
+  rows_long = length_numbers row_numbers row_length rs
 
   numbers_long : length ns ≡ needed f r
   unfolding needed numbers_in

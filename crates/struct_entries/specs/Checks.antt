@@ -1,13 +1,10 @@
 -- The row check of row structs (document 01, "Rules and row check"; D19).
-use Rattle.std.specs.Prelude.{◌≡◌, ℕ, Bool, ◌&&◌, List, ◌∷◌, Option}
+use Rattle.std.specs.Prelude.{ℕ, Bool, ◌&&◌, List}
 use Rattle.format.specs.Prelude.{each}
-use Rattle.format.specs.Rows as rows
 use Rattle.format.specs.Lists.{row_stride, count, all_in, row_ok_at, row_at, mark_ok, mark}
 use Rattle.format.specs.RowCheck.{row_check}
 use Rattle.struct_entries.specs.declared.RowAt.{RowAt}
 use Rattle.struct_entries.specs.Structs.{row_numbers, numbers_of}
-use Rattle.rules.specs.declared.Order.{Order}
-use Rattle.rules.specs.Orders.{follow, follow_some}
 
 -- a function that has all rows of a list of numbers; a simple mark above 1 and numbers that are no row are a no
 unfoldable pub check_numbers : (simple : ℕ) → List ℕ → Bool
@@ -17,7 +14,3 @@ check_numbers simple ns =
 -- one that has all rows of a list of structs: the check of the numbers that they mean
 unfoldable pub check_of : (simple : ℕ) → List RowAt → Bool
 check_of simple rows = check_numbers simple (numbers_of row_numbers rows)
-
--- what a row does: whatever rows follow, it decides with them
-pub record CheckedRow (o : Order) (x : RowAt) (r : Option Order) : Type 0 where
-  pub decides : (xs : List rows.RowAt) → row_ok_at (row_numbers x) 0 && follow o (row_at (row_numbers x) 0 ∷ xs) ≡ follow_some r xs

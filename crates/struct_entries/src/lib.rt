@@ -2,23 +2,27 @@
 // from rucc-asm/src/unwind.rs (Extent, Rows) of tamnd/rucc, changed: see NOTICE.
 #![tactic(auto)]
 
-ghost use Rattle.std.specs.Prelude.{◌≡◌, true, false, [], ◌+◌, ◌*◌, ◌≤◌, length, leb};
+ghost use Rattle.std.specs.Prelude.{◌≡◌, ℕ, List, false, [], ◌+◌, ◌*◌, ◌≤◌, ◌<◌, length, leb, eqb};
+ghost use Rattle.std.specs.Bool.{then_some};
 ghost use Rattle.format.specs.Put.{put};
 ghost use Rattle.format.specs.Prelude.{all, pick};
+ghost use Rattle.format.specs.Machine.{machine_ok, machine_of};
+ghost use Rattle.format.specs.Lists.{function_stride, row_stride, row_ok_at, row_at};
 ghost use Rattle.format.specs.Coded.{numbered_at};
-ghost use Rattle.format.specs.Questions.{relaxed_table, relaxed_debug_frame, room_in, empty};
+ghost use Rattle.format.specs.Questions.{room_in, empty};
 ghost use Rattle.format.specs.Answers.{bit, outcome_of};
+ghost use Rattle.format.specs.declared.question.Question.TheVariants as question;
 ghost use Rattle.unwind.specs.Entries.{Exports};
-ghost use Rattle.struct_entries.specs.Structs.{row_numbers, function_numbers, numbers_of};
+ghost use Rattle.unwind.specs.Together.{answer_for};
+ghost use Rattle.struct_entries.specs.Structs.{row_numbers, function_numbers, numbers_of, row_length, function_length};
 ghost use Rattle.struct_entries.specs.Packed.{stored, stored_all, Packs};
-ghost use Rattle.struct_entries.specs.Checks.{check_of, CheckedRow};
+ghost use Rattle.struct_entries.specs.Checks.{check_of};
 ghost use Rattle.struct_entries.specs.Entries.{needed, is_zero, ready_for, cleared, packed, once_ready, table_is_empty, table_asks, debug_frame_is_empty, debug_frame_asks, numbers_in, relaxed_table_of, relaxed_debug_frame_of};
 
-use format::{Counts, Question, Refusal};
+use format::{Counts, Question, Refusal, Row};
 use lists::FUNCTION_STRIDE;
 use rows::ROW_STRIDE;
-use rules::Order;
-use unwind::Written;
+use unwind::{Format, Written};
 
 // A row of a function: its offset, its kind (0 to 10, in document 01's order and then W-207's) and its operands; one that the kind does not have
 // is 0. The value of an InRegister is the other register, 0 to 65,535.
@@ -121,6 +125,7 @@ fn has_room(at: usize, i: usize, stride: usize, room: usize) -> bool
 }
 
 // Record i of those that are stored from `at` on, where it fits.
+// Kept: it asks for room itself, though who packs has asked: `stored` has the test in it, and says of one record what it says of all.
 fn put_record(numbers: &mut [u64], at: usize, i: usize, ns: &[u64])
     ensures { numbers.new ≡ stored numbers.old (at + length ns.now * i) ns.now }
 {
@@ -132,38 +137,78 @@ fn put_record(numbers: &mut [u64], at: usize, i: usize, ns: &[u64])
     numbers[p..p + n].copy_from_slice(ns);
 }
 
+// A struct that means a record of numbers.
+trait Record: Copy {
+    // How many numbers it means.
+    const STRIDE: usize;
+
+    ghost STRIDE: { ℕ };
+
+    ghost meaning: { Self → List ℕ };
+
+    // Its numbers as record i of those that are stored from `at` on, where they fit.
+    fn put(self, numbers: &mut [u64], at: usize, i: usize)
+        ensures { numbers.new ≡ stored numbers.old (at + STRIDE * i) (meaning self) };
+
+    ghost even: { (x : Self) → length (meaning x) ≡ STRIDE };
+}
+
+impl Record for RowAt {
+    const STRIDE: usize = ROW_STRIDE;
+
+    ghost STRIDE = { row_stride };
+
+    ghost meaning = { row_numbers };
+
+    ghost even = { row_length };
+
+    fn put(self, numbers: &mut [u64], at: usize, i: usize) {
+        put_record(numbers, at, i, &row_numbers(self));
+    }
+}
+
+impl Record for Function {
+    const STRIDE: usize = FUNCTION_STRIDE;
+
+    ghost STRIDE = { function_stride };
+
+    ghost meaning = { function_numbers };
+
+    ghost even = { function_length };
+
+    fn put(self, numbers: &mut [u64], at: usize, i: usize) {
+        put_record(numbers, at, i, &function_numbers(self));
+    }
+}
+
 // The structs of a list, one after the other from `at` on, each where it fits.
-// Kept: put_rows and put_functions, and their exports, are three lines each over arrays of two lengths. One function over both, with
-// a closure that gives the array, was tried: the prover does not cover a bound `Fn` whose answer's length is a const parameter. A trait
-// would need a ghost member and a law for each of the two, and be longer than the twin.
-fn put_rows(rows: &[RowAt], numbers: &mut [u64], at: usize)
-    ensures { numbers.new ≡ stored_all row_numbers numbers.old at rows.now }
+fn put_all<R: Record>(records: &[R], numbers: &mut [u64], at: usize)
+    ensures { numbers.new ≡ stored_all R.meaning numbers.old at records.now }
 {
-    for i in 0..rows.len() {
-        put_record(numbers, at, i, &row_numbers(rows[i]));
+    for (i, x) in records.iter().enumerate() {
+        x.put(numbers, at, i);
     }
 }
 
-fn put_functions(functions: &[Function], numbers: &mut [u64], at: usize)
-    ensures { numbers.new ≡ stored_all function_numbers numbers.old at functions.now }
+// Those of a list at the front of a lent list of numbers: 0, or 54 where they do not fit.
+fn pack_front<R: Record>(records: &[R], numbers: &mut [u64]) -> u64
+    ensures { Packs (numbers_of R.meaning records.now) numbers.old numbers.new result }
 {
-    for i in 0..functions.len() {
-        put_record(numbers, at, i, &function_numbers(functions[i]));
+    if !fits(records.len(), R::STRIDE, numbers.len()) {
+        return Question::OtherRoom.number();
     }
+    put_all(records, numbers, 0);
+    0
 }
 
-// ---- the row check, row by row. It holds structs to the check over lists of numbers, in crate rules.
+// ---- the row check
 
-// A row more: what follows, where it may stand there. A struct that is no row may not.
-fn check_row(o: Order, x: RowAt) -> Option<Order>
-    ensures { CheckedRow o x result }
+// Struct i as a row and its offset, where it is one.
+fn row_in(rows: &[RowAt], i: usize) -> Option<(u64, Row)>
+    requires { i < length rows.now }
+    ensures { result ≡ then_some (row_ok_at (numbers_of row_numbers rows.now) i) (row_at (numbers_of row_numbers rows.now) i) }
 {
-    let ns = row_numbers(x);
-    if !rows::row_ok(&ns, 0) {
-        return None;
-    }
-    let first = rules::at_start(o.leading, x.offset);
-    rules::step(o, first, rows::row_at(&ns, 0))
+    rules::row_in(&row_numbers(rows[i]), 0)
 }
 
 // All rows of a function. A simple mark above 1 is a no.
@@ -173,14 +218,15 @@ fn rows_checked(simple: u64, rows: &[RowAt]) -> bool
     if 1 < simple {
         return false;
     }
-    let mut o = rules::start(simple != 0);
-    for x in rows {
-        let Some(after) = check_row(o, *x) else {
-            return false;
-        };
-        o = after;
-    }
-    true
+    rules::rows_check(
+        simple != 0,
+        0,
+        rows.len(),
+        |i|
+            requires { i < length rows.now }
+            ensures { result ≡ then_some (row_ok_at (numbers_of row_numbers rows.entry.now) i) (row_at (numbers_of row_numbers rows.entry.now) i) }
+        { row_in(rows, i) },
+    )
 }
 
 // ---- the lent list of numbers
@@ -232,10 +278,11 @@ struct Given<'a> {
     rows: usize,
 }
 
-// Kept: the lent lists stand one by one in what follows, since the contracts of unwind's entries, which they hand on, name each of them.
-// Kept: this one and the next differ in the entry that they call, and the entries take different lists. One function for both, by an
-// enum, would have to ask that the entry without call sites is lent none.
-fn packed_table(
+// The table of ELF and of COFF or, for `debug`, debug_frame, of the lists that stand in the lent one, which is cleared then.
+// Kept: the lent lists one by one. `Exports` names each before and after; in `lists::output::Output` each clause would name a field of another value, and one
+// more would say that the caller's own lists are lent in it still (D122). `debug` is a bool, as `answer_for` has it.
+fn packed(
+    debug: bool,
     x: &Given,
     numbers: &mut [u64],
     places: &mut [u64],
@@ -244,13 +291,14 @@ fn packed_table(
     sites: &mut [u8],
 ) -> Written
     requires { needed x.now.functions x.now.rows ≤ length numbers.old }
-    ensures exports { Exports (relaxed_table x.now.format (packed x.now.machine.now numbers.old x.now.functions x.now.rows x.now.landings.now x.now.pairs.now) (room_in places.old bytes.old relocations.old sites.old)) result places.old places.new bytes.old bytes.new relocations.old relocations.new sites.old sites.new }
+    ensures exports { Exports (answer_for debug x.now.format (packed x.now.machine.now numbers.old x.now.functions x.now.rows x.now.landings.now x.now.pairs.now) (room_in places.old bytes.old relocations.old sites.old)) result places.old places.new bytes.old bytes.new relocations.old relocations.new sites.old sites.new }
     ensures numbers_after { numbers.new ≡ cleared numbers.old (needed x.now.functions x.now.rows) }
 {
     let a = FUNCTION_STRIDE * x.functions;
     let b = a + ROW_STRIDE * x.rows;
     let t = &numbers[..];
-    let outcome = unwind::relaxed_table(
+    let outcome = unwind::write(
+        debug,
         x.machine,
         x.format,
         &t[..a],
@@ -266,33 +314,28 @@ fn packed_table(
     Written::from(outcome)
 }
 
-fn packed_debug_frame(
-    x: &Given,
-    numbers: &mut [u64],
-    places: &mut [u64],
-    bytes: &mut [u8],
-    relocations: &mut [u64],
-) -> Written
-    requires { needed x.now.functions x.now.rows ≤ length numbers.old }
-    ensures exports { Exports (relaxed_debug_frame x.now.format (packed x.now.machine.now numbers.old x.now.functions x.now.rows x.now.landings.now x.now.pairs.now) (room_in places.old bytes.old relocations.old [])) result places.old places.new bytes.old bytes.new relocations.old relocations.new [] [] }
-    ensures numbers_after { numbers.new ≡ cleared numbers.old (needed x.now.functions x.now.rows) }
+// What is asked of ELF's machine, and then of the list that is not ready: 11, or 54.
+fn elf_asks(machine: &[u64]) -> Question
+    ensures { result ≡ pick (machine_ok machine.now) question.OtherRoom question.Interface }
 {
-    let a = FUNCTION_STRIDE * x.functions;
-    let b = a + ROW_STRIDE * x.rows;
-    let t = &numbers[..];
-    let outcome = unwind::relaxed_debug_frame(
-        x.machine,
-        x.format,
-        &t[..a],
-        &t[a..b],
-        x.landings,
-        x.pairs,
-        places,
-        bytes,
-        relocations,
-    );
-    clear(numbers, b);
-    Written::from(outcome)
+    if !lists::machine_ok(machine) {
+        return Question::Interface;
+    }
+    Question::OtherRoom
+}
+
+// 12 of COFF's word stands between them.
+// Kept: two tests. By `lists::read_machine` it is a match of three arms, one of them with a guard on the word, and the tests stay in the clause.
+fn coff_asks(machine: &[u64]) -> Question
+    ensures { result ≡ pick (machine_ok machine.now) (pick (eqb (machine_of machine.now).word 8) question.OtherRoom question.X64Word) question.Interface }
+{
+    if !lists::machine_ok(machine) {
+        return Question::Interface;
+    }
+    if !lists::word_ok(lists::machine_of(machine)) {
+        return Question::X64Word;
+    }
+    Question::OtherRoom
 }
 
 // What a writer answers where the list is not ready: an empty result, 78, 11 or 12, else 54.
@@ -302,39 +345,14 @@ fn table_without_numbers(x: &Given) -> Result<Option<Counts>, Refusal>
     if x.functions == 0 {
         return Ok(None);
     }
-    if 4 < x.format {
-        return Err(Refusal {
-            question: Question::Interface,
-            position: 0,
-        });
+    match Format::try_from(x.format) {
+        Ok(Format::Elf) => Err(elf_asks(x.machine).into()),
+        Ok(Format::Coff) => Err(coff_asks(x.machine).into()),
+        Ok(Format::MachO) => Err(Question::MachO.into()),
+        Ok(Format::Wasm) => Ok(None),
+        Ok(Format::Plan9) => Ok(None),
+        Err(question) => Err(question.into()),
     }
-    if 3 <= x.format {
-        return Ok(None);
-    }
-    if x.format == 2 {
-        return Err(Refusal {
-            question: Question::MachO,
-            position: 0,
-        });
-    }
-    if !lists::machine_ok(x.machine) {
-        return Err(Refusal {
-            question: Question::Interface,
-            position: 0,
-        });
-    }
-    if x.format == 1 {
-        if !lists::word_ok(lists::machine_of(x.machine)) {
-            return Err(Refusal {
-                question: Question::X64Word,
-                position: 0,
-            });
-        }
-    }
-    Err(Refusal {
-        question: Question::OtherRoom,
-        position: 0,
-    })
 }
 
 fn debug_frame_without_numbers(x: &Given) -> Result<Option<Counts>, Refusal>
@@ -343,19 +361,11 @@ fn debug_frame_without_numbers(x: &Given) -> Result<Option<Counts>, Refusal>
     if x.functions == 0 {
         return Ok(None);
     }
-    if x.format != 0 {
+    let elf = u64::from(Format::Elf);
+    if x.format != elf {
         return Ok(None);
     }
-    if !lists::machine_ok(x.machine) {
-        return Err(Refusal {
-            question: Question::Interface,
-            position: 0,
-        });
-    }
-    Err(Refusal {
-        question: Question::OtherRoom,
-        position: 0,
-    })
+    Err(elf_asks(x.machine).into())
 }
 
 // ---- lists of structs
@@ -369,8 +379,8 @@ fn pack(functions: &[Function], rows: &[RowAt], numbers: &mut [u64]) -> bool
         return false;
     }
     let a = FUNCTION_STRIDE * f;
-    put_functions(functions, numbers, 0);
-    put_rows(rows, numbers, a);
+    put_all(functions, numbers, 0);
+    put_all(rows, numbers, a);
     true
 }
 
@@ -379,22 +389,14 @@ fn pack(functions: &[Function], rows: &[RowAt], numbers: &mut [u64]) -> bool
 pub extern "C" fn unwind_pack_rows(rows: &[RowAt], numbers: &mut [u64]) -> u64
     ensures { Packs (numbers_of row_numbers rows.now) numbers.old numbers.new result }
 {
-    if !fits(rows.len(), ROW_STRIDE, numbers.len()) {
-        return Question::OtherRoom.number();
-    }
-    put_rows(rows, numbers, 0);
-    0
+    pack_front(rows, numbers)
 }
 
 #[unsafe(no_mangle)]
 pub extern "C" fn unwind_pack_functions(functions: &[Function], numbers: &mut [u64]) -> u64
     ensures { Packs (numbers_of function_numbers functions.now) numbers.old numbers.new result }
 {
-    if !fits(functions.len(), FUNCTION_STRIDE, numbers.len()) {
-        return Question::OtherRoom.number();
-    }
-    put_functions(functions, numbers, 0);
-    0
+    pack_front(functions, numbers)
 }
 
 // Whether the rows state rules at each place, 1 or 0, as unwind_row_check says of the numbers that they mean.
@@ -435,7 +437,7 @@ pub extern "C" fn unwind_relaxed_table_of(
     if !pack(functions, rows, numbers) {
         return Written::from(table_without_numbers(&x));
     }
-    packed_table(&x, numbers, places, bytes, relocations, sites)
+    packed(false, &x, numbers, places, bytes, relocations, sites)
 }
 
 // unwind_relaxed_debug_frame in the same way.
@@ -465,5 +467,6 @@ pub extern "C" fn unwind_relaxed_debug_frame_of(
     if !pack(functions, rows, numbers) {
         return Written::from(debug_frame_without_numbers(&x));
     }
-    packed_debug_frame(&x, numbers, places, bytes, relocations)
+    // debug_frame has no call sites: no list is lent for them.
+    packed(true, &x, numbers, places, bytes, relocations, &mut [])
 }

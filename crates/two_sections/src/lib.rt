@@ -10,6 +10,7 @@ ghost use Rattle.two_sections.specs.Story.{OneStory};
 
 use format::{Question, Rules};
 use lists::output::WrittenAnd;
+use unwind::Format;
 
 // What the writers of both sections answered, and what the reader answered of each.
 #[derive(Clone, Copy)]
@@ -20,7 +21,9 @@ pub struct TwoSections {
 
 // The list as ELF's eh_frame and as debug_frame, and the reader on exactly what was written of each: where both were accepted, and function
 // k has no relaxing labels and p is below its length, both readings are the same.
-// Kept: the lists one by one, since the promises of the entries that it calls name each of them.
+// Kept: the lists one by one. `Writes`, `reading_for` and `OneStory` of the theorem in README name each of them; in `lists::Lists` and two `lists::output::Output`
+// each clause would name a field of another value (`to.old.places.now`), and two more would say that the caller's own lists are lent in it
+// still (`SameLists`).
 pub fn write_two_and_read(
     machine: &[u64],
     functions: &[u64],
@@ -44,10 +47,11 @@ pub fn write_two_and_read(
     ensures of_debug_value { numbered result.debug.answer ≡ reading_for true machine.now (numbered_at result.debug.outcome) debug_bytes.new debug_relocations.new k q p }
     ensures one_story { OneStory (given_of machine.now functions.now rows.now landings.now pairs.now) (numbered_at result.eh.outcome) (numbered_at result.debug.outcome) k p (numbered result.eh.answer) (numbered result.debug.answer) }
 {
+    let elf = u64::from(Format::Elf);
     let eh = unwind::write_and_read(
         false,
         machine,
-        0,
+        elf,
         functions,
         rows,
         landings,
@@ -63,7 +67,7 @@ pub fn write_two_and_read(
     let debug = unwind::write_and_read(
         true,
         machine,
-        0,
+        elf,
         functions,
         rows,
         landings,

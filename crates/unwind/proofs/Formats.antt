@@ -12,7 +12,6 @@ use Rattle.format.specs.declared.Section.TheVariants.{Elf, Debug}
 use Rattle.format.specs.Machine.{machine_of}
 use Rattle.format.specs.Lists.{count, function_stride}
 use Rattle.format.specs.Questions.{Given, Room, Answer, refused, empty, unless, no_functions, dwarf_given, windows_asks, windows_answer, given_functions, format_answer, relaxed_table, relaxed_debug_frame}
-use Rattle.format.proofs.Choice.{either}
 use Rattle.format.specs.Answers.{Writes, outcome_of, afterwards}
 
 -- a call that writes nothing
@@ -29,14 +28,6 @@ module _ {p b r s : List ℕ} where
 pub same_answer : {a a' : Answer} {o : Outcome} {p p' b b' r r' s s' : List ℕ} → a' ≡ a → Writes a o p p' b b' r r' s s'
     → Writes a' o p p' b b' r r' s s'
 same_answer {a} {a'} {o} {p} {p'} {b} {b'} {r} {r'} {s} {s'} e w = subst (λ (x : Answer). Writes x o p p' b b' r r' s s') (sym e) w
-
--- a number that is none of the first five
-pub above_four : (n : ℕ) → n ≢ 0 → n ≢ 1 → n ≢ 2 → n ≢ 3 → n ≢ 4 → 4 < n
-above_four n a b c d e =
-    either 5 n (λ h. omega arith)
-    (λ h. either 4 n (λ k. absurd (e (omega arith)))
-    (λ k. either 3 n (λ l. absurd (d (omega arith)))
-    (λ l. either 2 n (λ m. absurd (c (omega arith))) (λ m. either 1 n (λ o. absurd (b (omega arith))) (λ o. absurd (a (omega arith)))))))
 
 module _ (format : ℕ) (g : Given) (r : Room) where
   pub none_given : count function_stride g.functions ≡ 0 → relaxed_table format g r ≡ empty

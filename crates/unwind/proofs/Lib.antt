@@ -4,5 +4,6 @@ pub mod Fitting
 pub mod Fronts
 pub mod Demands
 pub mod Formats
+pub mod Numbered
 pub mod Delivering
 pub mod Marks

@@ -2,3 +2,4 @@
 pub mod Demand
 pub mod Together
 pub mod Entries
+pub mod Formats

@@ -13,6 +13,9 @@ ghost use Rattle.unwind.specs.Entries.{read_numbers, written_numbers, Exports};
 
 use format::{CfaRule, Counts, Question, Refusal, Rule, Rules, Section};
 use lists::output::WrittenAnd;
+pub use object::Format;
+
+pub mod object;
 
 // ---- the writers
 
@@ -38,8 +41,8 @@ pub fn relaxed_table(
     if listed == 0 {
         return Ok(None);
     }
-    match format {
-        0 => dwarf::dwarf(
+    match Format::try_from(format) {
+        Ok(Format::Elf) => dwarf::dwarf(
             Section::Elf,
             machine,
             functions,
@@ -51,7 +54,7 @@ pub fn relaxed_table(
             relocations,
             sites,
         ),
-        1 => x64::windows(
+        Ok(Format::Coff) => x64::windows(
             machine,
             functions,
             rows,
@@ -62,16 +65,10 @@ pub fn relaxed_table(
             relocations,
             sites,
         ),
-        2 => Err(Refusal {
-            question: Question::MachO,
-            position: 0,
-        }),
-        3 => Ok(None),
-        4 => Ok(None),
-        _ => Err(Refusal {
-            question: Question::Interface,
-            position: 0,
-        }),
+        Ok(Format::MachO) => Err(Question::MachO.into()),
+        Ok(Format::Wasm) => Ok(None),
+        Ok(Format::Plan9) => Ok(None),
+        Err(question) => Err(question.into()),
     }
 }
 
@@ -135,7 +132,8 @@ pub fn relaxed_debug_frame(
     if functions.len() / lists::FUNCTION_STRIDE == 0 {
         return Ok(None);
     }
-    if format != 0 {
+    let elf = u64::from(Format::Elf);
+    if format != elf {
         return Ok(None);
     }
     // debug_frame has no call sites: nothing is stored here.
@@ -208,15 +206,16 @@ pub fn read(
 // ---- a writer and then the reader
 
 // How many bytes, and how many numbers of relocations, were written.
+// Kept: two functions, each with its own match. Over a shared `written(o) -> Option<Counts>` each would be `written(o).map_or(0, |c| ..)`, and
+// `written` would need a definition, and a law to each of `bytes_in` and `relocs_in`.
 #[tactic(auto, unfolding(crate::specs::Together::bytes_in))]
 pub fn bytes_in(o: Result<Option<Counts>, Refusal>) -> usize
     ensures { result ≡ bytes_in (numbered_at o) }
 {
-    match o {
-        Ok(Some(c)) => c.bytes as usize,
-        Ok(None) => 0,
-        Err(_) => 0,
-    }
+    let Ok(Some(c)) = o else {
+        return 0;
+    };
+    c.bytes as usize
 }
 
 #[tactic(auto, unfolding(crate::specs::Together::relocs_in))]
@@ -224,11 +223,10 @@ pub fn numbers_in(o: Result<Option<Counts>, Refusal>, room: usize) -> usize
     requires { 5 * relocs_in (numbered_at o) ≤ room }
     ensures { result ≡ 5 * relocs_in (numbered_at o) }
 {
-    match o {
-        Ok(Some(c)) => relocs::RELOCATION_STRIDE * (c.relocations as usize),
-        Ok(None) => 0,
-        Err(_) => 0,
-    }
+    let Ok(Some(c)) = o else {
+        return 0;
+    };
+    relocs::RELOCATION_STRIDE * (c.relocations as usize)
 }
 
 // The machine's word, or 0 where there is no machine.
@@ -239,7 +237,9 @@ pub fn word_in(machine: &[u64]) -> u64
 }
 
 // debug_frame's writer, or the other.
-// Kept: here and below the lists and numbers one by one, since the promises of the writers and of the reader name each of them.
+// Kept: here and below the lists one by one. `Writes`, `reading_for` and `Demanded` of the theorem in README name each of them; in
+// `lists::Lists` and `lists::output::Output` each clause would name a field of another value (`to.old.places.now`), and one more would
+// say that the caller's own lists are lent in it still (`SameLists`). `debug` is a bool, as `answer_for` has it in the same theorem.
 pub fn write(
     debug: bool,
     machine: &[u64],
@@ -352,7 +352,7 @@ pub struct Numbers {
 
 // What the writers answer.
 #[repr(C)]
-#[derive(Clone, Copy)]
+#[derive(Clone, Copy, Default)]
 pub struct Written {
     pub number: u64,
     pub position: u64,
@@ -389,7 +389,7 @@ impl From<CfaRule> for Address {
             CfaRule::Register(reg, z) => Address {
                 kind: 1,
                 register: u64::from(reg),
-                offset: numbers::bits(z),
+                offset: z.cast_unsigned(),
             },
         }
     }
@@ -404,7 +404,7 @@ impl From<Rule> for Saving {
             Rule::Undefined => Saving { kind: 1, value: 0 },
             Rule::Saved(z) => Saving {
                 kind: 2,
-                value: numbers::bits(z),
+                value: z.cast_unsigned(),
             },
             Rule::SameValue => Saving { kind: 3, value: 0 },
             Rule::InRegister(reg) => Saving {
@@ -441,6 +441,7 @@ fn with_number(r: Result<Rules, Question>) -> Result<Rules, u64>
 }
 
 // A question's number is any number here, since C may hand one on that the reader did not give.
+// Kept: the zeros of a refusal one by one. Of `..Numbers::default()` there was no equation by which `returns` could be rewritten (tried).
 pub fn numbers_of(r: Result<Rules, u64>, shortest: bool) -> Numbers
     ensures { read_numbers result ≡ marked_numbers r shortest }
 {
@@ -473,21 +474,11 @@ impl From<Result<Option<Counts>, Refusal>> for Written {
                 relocations: c.relocations,
                 sites: c.sites,
             },
-            Ok(None) => Written {
-                number: 0,
-                position: 0,
-                places: 0,
-                bytes: 0,
-                relocations: 0,
-                sites: 0,
-            },
+            Ok(None) => Written::default(),
             Err(r) => Written {
                 number: r.question.number(),
                 position: r.position,
-                places: 0,
-                bytes: 0,
-                relocations: 0,
-                sites: 0,
+                ..Written::default()
             },
         }
     }

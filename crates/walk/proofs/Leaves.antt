@@ -1,7 +1,7 @@
 -- The leaves of the walk: an address sum, a word of the stack, where a caller is looked up, and what each says of the definition.
-use mathlib.Core.Path.{◌≡◌, refl}
+use mathlib.Core.Path.{◌≡◌}
 use mathlib.Core.Bool.{Bool, true, false}
-use mathlib.Core.Option.{Option, none, some}
+use mathlib.Core.Option.{Option, none}
 use mathlib.Core.List.{List}
 use Prim.Native.Nat.{ℕ, zero, suc, ◌+◌, ◌-◌, ◌^◌, ◌<◌, ◌≤◌}
 use native.Mathlib.Omega.{arith}
@@ -15,7 +15,7 @@ use Rattle.std.specs.Prelude.{Some, None, unsigned_abs}
 use Rattle.std.specs.Prelude as code
 use Rattle.std.specs.Int.{FitsUnsigned}
 use Rattle.std.specs.Option.{SomeIff}
-use Rattle.format.proofs.Asked.{option_of}
+use Rattle.format.proofs.Asked.{option_of, none_is, value_is}
 use Rattle.format.specs.Prelude.{next, after}
 use Rattle.format.specs.Leb.{read_little}
 use Rattle.format.specs.Reader.{require, value_or0}
@@ -25,16 +25,6 @@ use mir.Facts.{yes_leb}
 use Rattle.operations.specs.Positions.{little_at}
 use Rattle.operations.proofs.PositionLaws.{little_rest, little_none}
 use Rattle.walk.specs.Walk.{Memory, sum_of, load, looked_up}
-
--- ---- a number that the code found, or not
-
-pub number_is : (o : Option ℕ) {n : ℕ} → option_of o ≡ Some n → o ≡ some n
-number_is none e = let z : ◌≡◌ {A = ℕ} 0 1 = cc in absurd (omega arith)
-number_is (some n) e = cc
-
-pub number_none : (o : Option ℕ) → option_of o ≡ None → o ≡ none
-number_none none e = refl
-number_none (some n) e = let z : ◌≡◌ {A = ℕ} 0 1 = cc in absurd (omega arith)
 
 -- ---- an address and an offset
 
@@ -76,9 +66,9 @@ module _ (s : List ℕ) (p : ℕ) where
   word_is e = rw (little_rest s (from p) (omega arith) e)
 
 module _ (m : Memory) (a : ℕ) where
-  pub load_low : a < m.address → None ≡ option_of (load m a)
+  pub load_under : (m.address ≤ a → ⊥) → None ≡ option_of (load m a)
   unfolding load require
-  load_low h = rw (if-gt m.address a)
+  load_under n = either m.address a (λ h. absurd (n h)) (λ h. rw (if-gt m.address a))
 
   pub load_none : m.address ≤ a → little_at 8 m.bytes (from (a - m.address)) ≡ None → None ≡ option_of (load m a)
   unfolding load require next
@@ -91,11 +81,11 @@ module _ (m : Memory) (a : ℕ) where
 -- what follows from a number
 pub after_none : {B : Type 0} (o : Option ℕ) (k : ℕ → Option B) → option_of o ≡ None → after o k ≡ none
 unfolding after
-after_none o k e = rw (number_none o e)
+after_none o k e = rw (none_is o e)
 
 pub after_is : {B : Type 0} (o : Option ℕ) (k : ℕ → Option B) {n : ℕ} → option_of o ≡ Some n → after o k ≡ k n
 unfolding after
-after_is o k e = rw (number_is o e)
+after_is o k e = rw (value_is o e)
 
 -- ---- where a caller is looked up
 

@@ -1,22 +1,24 @@
 -- The trailer of a record file, a question at a time.
-use mathlib.Core.Path.{◌≡◌}
-use mathlib.Core.Bool.{true, false}
-use mathlib.Core.Option.{some}
+use mathlib.Core.Path.{◌≡◌, refl, sym, ap}
+use mathlib.Core.Bool.{Bool, true, false, ◌&&◌}
+use mathlib.Core.Option.{Option, none, some}
 use mathlib.Core.List.{List}
 use Prim.Native.Nat.{ℕ, ◌+◌, ◌-◌, ◌*◌, ◌<◌, ◌≤◌}
 use native.Mathlib.Omega.{arith}
 use borrow.Author.Tests.{lt-leb, le-leb, eq-eqb, ne_eqb}
-use lib.ListN.{length, drop}
-use lib.Dec.{eqb}
+use lib.ListN.{length, take, drop}
+use lib.Dec.{T, leb, eqb, leb→le, eqb→eq}
+use mir.Facts.{and_yes}
 use Rattle.std.specs.Prelude.{Some, None}
-use Rattle.format.specs.Prelude.{pick, next}
+use Rattle.walk.specs.declared.Trailer as code
+use Rattle.format.specs.Prelude.{pick, Read, next, after}
 use Rattle.format.specs.Leb.{read_little}
 use Rattle.format.specs.Reader.{require}
 use Rattle.operations.specs.declared.fields.Position.{Position}
 use Rattle.operations.specs.Positions.{little_at}
 use Rattle.operations.proofs.PositionLaws.{little_rest, little_none}
 use Rattle.rows.proofs.Signs.{eqb_both}
-use Rattle.walk.specs.Recorded.{matches, read_trailer}
+use Rattle.walk.specs.Recorded.{Slot, Trailer, matches, read_trailer, slots_of, read_recorded}
 use Rattle.walk.specs.Standing.{trailer_of}
 use Rattle.walk.proofs.Leaves.{from}
 
@@ -82,6 +84,60 @@ module _ (s : List ℕ) where
             unfolding next require pick
             no_match e = rw (asked, first, second, little_rest s q (omega arith) z, e)
 
-            pub numbers : matches (length s) distance count size ≡ true → Some (size, count) ≡ trailer_of (read_trailer s)
+            pub numbers : matches (length s) distance count size ≡ true → Some (record { size = size; count = count }) ≡ trailer_of (read_trailer s)
             unfolding next require pick
             numbers e = rw (asked, first, second, little_rest s q (omega arith) z, e)
+
+-- ---- the whole file
+
+pub trailer_bad : (o : Option Trailer) → None ≡ trailer_of o → o ≡ none
+trailer_bad none e = refl
+trailer_bad (some t) e = let z : ◌≡◌ {A = ℕ} 0 1 = cc in absurd (omega arith)
+
+pub trailer_is : (o : Option Trailer) {t : code.Trailer} → Some t ≡ trailer_of o → o ≡ some (record { size = t.size; count = t.count })
+trailer_is none e = let z : ◌≡◌ {A = ℕ} 0 1 = cc in absurd (omega arith)
+trailer_is (some x) {t} e =
+    let i : t ≡ record { size = x.size; count = x.count } = cc in ap (λ (y : code.Trailer). some (record { size = y.size; count = y.count })) (sym i)
+
+required : {A : Type 0} (t : Bool) (o : Option A) {a : A} → require t o ≡ some a → T t × (o ≡ some a)
+unfolding require pick
+required true o e = (tt, e)
+required false o e = let z : ◌≡◌ {A = ℕ} 0 1 = cc in absurd (omega arith)
+
+read_on : {A B : Type 0} (r : Read A) (k : A → List ℕ → Option B) {b : B} → next r k ≡ some b → (x : A) × (bs : List ℕ) × (k x bs ≡ some b)
+unfolding next
+read_on none k e = let z : ◌≡◌ {A = ℕ} 0 1 = cc in absurd (omega arith)
+read_on (some x) k e = (x.0, x.1, e)
+
+size_of : {x y : Trailer} → some x ≡ some y → x.size ≡ y.size
+size_of {x} {y} e = let z : x ≡ y = cc in ap (λ (t : Trailer). t.size) z
+
+matched : (file distance count size : ℕ) → T (matches file distance count size) → size + distance + 16 ≡ file
+unfolding matches
+matched file distance count size t =
+    let y = and_yes (leb count 128) _ t in
+    eqb→eq (size + distance + 16) file (and_yes (eqb distance (8 * count)) _ y.1).1
+
+-- the stack lies in the file
+pub trailer_inside : (file : List ℕ) {a b : ℕ} → read_trailer file ≡ some (record { size = a; count = b }) → (a ≤ length file) × (a ≤ 65536)
+unfolding read_trailer
+trailer_inside file {a} {b} e =
+    let x = required (leb 16 (length file) && leb (length file) 65536) _ e in
+    let d = read_on _ _ x.1 in
+    let c = read_on _ _ d.2 in
+    let s = read_on _ _ c.2 in
+    let m = required _ _ s.2 in
+    let w : s.0 + d.0 + 16 ≡ length file = matched (length file) d.0 c.0 s.0 m.0 in
+    let small : length file ≤ 65536 = leb→le (length file) 65536 (and_yes (leb 16 (length file)) _ x.0).1 in
+    let same : s.0 ≡ a = size_of m.1 in
+    (omega arith, omega arith)
+
+module _ (file : List ℕ) where
+  pub no_recorded : read_trailer file ≡ none → none ≡ read_recorded file
+  unfolding read_recorded after
+  no_recorded e = rw e
+
+  pub recorded_is : {a b : ℕ} {rs : List Slot} → read_trailer file ≡ some (record { size = a; count = b }) → rs ≡ slots_of b (drop a file)
+      → some (record { stack = take a file; slots = rs }) ≡ read_recorded file
+  unfolding read_recorded after
+  recorded_is e f = rw (e, f)

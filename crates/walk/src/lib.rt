@@ -10,9 +10,9 @@ ghost use Rattle.format.proofs.Asked.{option_of};
 ghost use Rattle.format.specs.Put.{put};
 ghost use Rattle.format.specs.Leb.{read_little};
 ghost use Rattle.format.specs.Reader.{value_or0};
-ghost use Rattle.walk.specs.Recorded.{matches, read_trailer, slots_of};
+ghost use Rattle.walk.specs.Recorded.{matches, read_trailer, slots_of, read_recorded};
 ghost use Rattle.walk.specs.Walk.{sum_of, load, saved, left_by, frame_address, unsigned, looked_up, undefined, returned_to, holds, held_from, placed_of, frame_numbers};
-ghost use Rattle.walk.specs.Standing.{holder_of, trailer_of, memory_of, slot_of, slots, left_of, step_of};
+ghost use Rattle.walk.specs.Standing.{holder_of, trailer_of, recorded_of, memory_of, slot_of, slots, left_of, step_of};
 
 use format::{CfaRule, Question, Rule};
 use operations::fields::{Position, read_le};
@@ -26,25 +26,22 @@ pub struct Memory<'a> {
     pub bytes: &'a [u8],
 }
 
-// The 8 bytes at an address, where all of them are the stack's.
-pub fn load(m: Memory, a: u64) -> Option<u64>
-    ensures { result ≡ option_of (load (memory_of m.entry) a) }
-{
-    if a < m.address {
-        return None;
+impl Memory<'_> {
+    // The 8 bytes at an address, where all of them are the stack's.
+    pub fn load(&self, a: u64) -> Option<u64>
+        ensures { result ≡ option_of (load (memory_of self.now) a) }
+    {
+        let place = Position::from(a.checked_sub(self.address)? as usize);
+        let (v, _) = read_le(self.bytes, place, 8)?;
+        Some(v)
     }
-    let place = Position {
-        at: (a - m.address) as usize,
-        shortest: true,
-    };
-    let (v, _) = read_le(m.bytes, place, 8)?;
-    Some(v)
-}
 
-fn saved(m: Memory, cfa: u64, o: i64) -> Option<u64>
-    ensures { result ≡ option_of (after (sum_of cfa o) (load (memory_of m.entry))) }
-{
-    load(m, cfa.checked_add_signed(o)?)
+    // The word at an offset from the frame address.
+    fn saved(&self, cfa: u64, o: i64) -> Option<u64>
+        ensures { result ≡ option_of (after (sum_of cfa o) (load (memory_of self.now))) }
+    {
+        self.load(cfa.checked_add_signed(o)?)
+    }
 }
 
 // A return address: with signing on, the low 48 bits.
@@ -66,27 +63,41 @@ pub fn looked_up(exact: bool, a: u64) -> Option<u64>
 // Its numbers in the list: where it starts, and its length.
 pub const FUNCTION_STRIDE: usize = 2;
 
+// Kept: beside `covers` of call_sites and `record_holds` of reads, which are the same test. They meet a definition each, over a struct, a struct and an Option
+// of two numbers; one function, in a crate below all three, needs a definition of its own and three laws.
 fn holds(start: u64, size: u64, a: u64) -> bool
     ensures { result ≡ holds a (record { start = start; size = size }) }
 {
     start <= a && a - start < size
 }
 
-// The first function in list order: its position in the list, and the offset from its start.
-fn holder_of(functions: &[u64], a: u64) -> Option<(u64, u64)>
+// A function by its position in the list, and the offset of an address in it.
+#[derive(Clone, Copy)]
+pub struct Holder {
+    pub position: u64,
+    pub offset: u64,
+}
+
+// The first function in list order.
+fn holder_of(functions: &[u64], a: u64) -> Option<Holder>
     ensures { result ≡ holder_of (held_from a 0 (placed_of functions.now)) }
 {
-    for i in 0..functions.len() / FUNCTION_STRIDE {
-        let start = functions[FUNCTION_STRIDE * i];
-        if holds(start, functions[FUNCTION_STRIDE * i + 1], a) {
-            return Some((i as u64, a - start));
-        }
-    }
-    None
+    let n = functions.len() / FUNCTION_STRIDE;
+    let i = (0..n).find(|i| {
+        holds(
+            functions[FUNCTION_STRIDE * *i],
+            functions[FUNCTION_STRIDE * *i + 1],
+            a,
+        )
+    })?;
+    Some(Holder {
+        position: i as u64,
+        offset: a - functions[FUNCTION_STRIDE * i],
+    })
 }
 
 // The function that holds the address where a caller is looked up.
-pub fn held(functions: &[u64], exact: bool, pc: u64) -> Option<(u64, u64)>
+pub fn held(functions: &[u64], exact: bool, pc: u64) -> Option<Holder>
     ensures { result ≡ holder_of (after (looked_up exact pc) (λ a. held_from a 0 (placed_of functions.now))) }
 {
     holder_of(functions, looked_up(exact, pc)?)
@@ -110,8 +121,15 @@ fn matches(file: u64, distance: u64, count: u64, size: u64) -> bool
     size == file - 16 - distance
 }
 
-// 73: the trailer, where it matches the file: the stack's length and the count of registers.
-pub fn read_trailer(file: &[u8]) -> Option<(usize, usize)>
+// What the end of a record file says: the stack's length and the count of registers.
+#[derive(Clone, Copy)]
+pub struct Trailer {
+    pub size: usize,
+    pub count: usize,
+}
+
+// 73: the trailer, where it matches the file.
+pub fn read_trailer(file: &[u8]) -> Option<Trailer>
     ensures { result ≡ trailer_of (read_trailer file.now) }
 {
     let n = file.len();
@@ -121,23 +139,23 @@ pub fn read_trailer(file: &[u8]) -> Option<(usize, usize)>
     if 65536 < n {
         return None;
     }
-    let trailer = Position {
-        at: n - 16,
-        shortest: true,
-    };
+    let trailer = Position::from(n - 16);
     let (distance, counted) = read_le(file, trailer, 8)?;
     let (count, sized) = read_le(file, counted, 4)?;
     let (size, _) = read_le(file, sized, 4)?;
     if !matches(n as u64, distance, count, size) {
         return None;
     }
-    Some((size as usize, count as usize))
+    Some(Trailer {
+        size: size as usize,
+        count: count as usize,
+    })
 }
 
 fn word_at(s: &[u8], at: usize) -> u64
     ensures { result ≡ value_or0 (read_little 8 (drop at s.now)) }
 {
-    let place = Position { at, shortest: true };
+    let place = Position::from(at);
     let Some((v, _)) = read_le(s, place, 8) else {
         return 0;
     };
@@ -149,11 +167,29 @@ pub fn registers(file: &[u8], at: usize, count: usize) -> [Option<u64>; 128]
     requires { at ≤ 65536 }
     ensures { slots result ≡ slots_of count (drop at file.now) }
 {
+    // Kept: a loop. By `array::from_fn` it was proved, and `rt ci` then could not write what the crate states for the crates above it.
     let mut registers = [None; 128];
     for i in 0..128 {
         registers[i] = (i < count).then_some(word_at(file, at + 8 * i));
     }
     registers
+}
+
+// A record file: the stack's bytes, and the registers behind them.
+#[derive(Clone, Copy)]
+pub struct Recorded<'a> {
+    pub stack: &'a [u8],
+    pub registers: [Option<u64>; 128],
+}
+
+pub fn read_recorded(file: &[u8]) -> Option<Recorded>
+    ensures { recorded_of result ≡ read_recorded file.now }
+{
+    let trailer = read_trailer(file)?;
+    Some(Recorded {
+        stack: &file[..trailer.size],
+        registers: registers(file, trailer.size, trailer.count),
+    })
 }
 
 // ---- a frame left
@@ -172,9 +208,7 @@ pub fn frame_address(rule: CfaRule, registers: &[Option<u64>]) -> Result<u64, Qu
     let CfaRule::Register(reg, o) = rule else {
         return Err(Question::Reached);
     };
-    let Some(a) = slot(registers, usize::from(reg)) else {
-        return Err(Question::Reached);
-    };
+    let a = slot(registers, usize::from(reg)).ok_or(Question::Reached)?;
     a.checked_add_signed(o).ok_or(Question::Stack)
 }
 
@@ -184,26 +218,25 @@ pub fn undefined(rule: Rule) -> bool
     matches!(rule, Rule::Undefined)
 }
 
-// A register after a frame is left, by its rule and the registers before.
-pub fn left_by(
-    registers: &[Option<u64>],
-    rule: Rule,
-    reg: usize,
-    m: Memory,
-    cfa: u64,
-) -> Result<Option<u64>, Question>
-    ensures { left_of result ≡ left_by (memory_of m.entry) cfa (slots registers.now) reg rule }
-{
-    match rule {
-        Rule::Unstated => Ok(slot(registers, reg)),
-        Rule::SameValue => Ok(slot(registers, reg)),
-        Rule::Undefined => Ok(None),
-        Rule::InRegister(other) => Ok(slot(registers, other as usize)),
-        Rule::Saved(o) => {
-            let Some(v) = saved(m, cfa, o) else {
-                return Err(Question::Stack);
-            };
-            Ok(Some(v))
+impl Memory<'_> {
+    // A register after a frame is left, by its rule and the registers before.
+    pub fn left_by(
+        &self,
+        registers: &[Option<u64>],
+        rule: Rule,
+        reg: usize,
+        cfa: u64,
+    ) -> Result<Option<u64>, Question>
+        ensures { left_of result ≡ left_by (memory_of self.now) cfa (slots registers.now) reg rule }
+    {
+        match rule {
+            Rule::Unstated | Rule::SameValue => Ok(slot(registers, reg)),
+            Rule::Undefined => Ok(None),
+            Rule::InRegister(other) => Ok(slot(registers, usize::from(other))),
+            Rule::Saved(o) => {
+                let v = self.saved(cfa, o).ok_or(Question::Stack)?;
+                Ok(Some(v))
+            }
         }
     }
 }
@@ -237,9 +270,7 @@ pub fn returned(
 ) -> Result<Option<Caller>, Question>
     ensures { step_of result ≡ returned_to (slots registers) ret signing exact }
 {
-    let Some(a) = slot(&registers, ret as usize) else {
-        return Err(Question::Reached);
-    };
+    let a = slot(&registers, ret as usize).ok_or(Question::Reached)?;
     Ok(Some(Caller {
         registers,
         pc: unsigned(signing, a),
@@ -260,6 +291,7 @@ pub struct Frame {
 }
 
 // The frames stored, two numbers each.
+// Kept: a loop over their numbers. `enumerate` would hand out the frame, and the two places in `out` would still be counted from its number.
 pub fn store(frames: &[Frame], out: &mut [u64])
     requires { 2 * length frames.now ≤ length out.old }
     ensures { out.new ≡ put out.old 0 (frame_numbers frames.now) }

@@ -1,75 +1,28 @@
 -- The entry: the record file, the machine, and the list that is lent.
-use mathlib.Core.Path.{◌≡◌, refl, sym, ap, ap₂, ◌∙◌}
-use Prim.Native.Nat.{ℕ, ◌+◌, ◌*◌, ◌/◌, ◌<◌, ◌≤◌}
-use native.Mathlib.Omega.{arith}
-use mathlib.Core.Bool.{Bool, true, false, ◌&&◌}
-use mathlib.Core.Option.{Option, none, some}
+use mathlib.Core.Path.{◌≡◌, refl, sym, ◌∙◌}
+use Prim.Native.Nat.{ℕ, ◌/◌, ◌<◌, ◌≤◌}
+use mathlib.Core.Bool.{Bool, true, false}
+use mathlib.Core.Option.{none, some}
 use mathlib.Core.List.{List, [], ◌∷◌}
-use lib.Dec.{T, leb, eqb, leb→le, eqb→eq}
-use lib.ListN.{length, take, drop}
-use mir.Facts.{and_yes}
-use Rattle.format.specs.Prelude.{pick, Read, next, after, Result, good, bad, onward, or_else}
+use lib.Dec.{eqb}
+use lib.ListN.{length}
+use Rattle.format.specs.Prelude.{pick, Result, good, bad, onward, or_else}
 use Rattle.std.specs.Prelude.{Some, None, Ok, Err}
 use Rattle.std.specs.Prelude as code
 use Rattle.format.specs.Put.{put}
 use Rattle.format.specs.declared.Machine.{Machine}
 use Rattle.format.specs.Machine.{machine_ok, machine_of}
-use Rattle.format.specs.Reader.{require}
 use Rattle.format.proofs.Choice.{if-le, if-gt, if-eq, if-ne}
-use Rattle.operations.proofs.PositionLaws.{both_are}
-use Rattle.walk.specs.Recorded.{Slot, Trailer, matches, read_trailer, read_recorded, slots_of}
+use Rattle.walk.specs.Recorded.{Recorded, read_recorded}
 use Rattle.walk.specs.Walk.{Source, Memory, frame_numbers, frames_f, fitting, walk_by}
 use Rattle.walk.specs.Walk as walk
-use Rattle.walk.specs.Standing.{trailer_of}
 use Rattle.format.specs.Numbers.{number_of}
 use Rattle.format.specs.declared.question.Question.{Question}
+use Rattle.format.specs.declared.question.Question.TheVariants.{Interface}
 use Rattle.walked.specs.Endings.{ending_number}
 use Rattle.walked.specs.declared.chain.Chain.{Chain}
 use Rattle.walked.specs.Standing.{walked_of, fault_of}
 use Rattle.walked.specs.Entry.{chain_numbers, chain_stored}
-
--- ---- the trailer
-
-pub trailer_bad : (o : Option Trailer) → None ≡ trailer_of o → o ≡ none
-trailer_bad none e = refl
-trailer_bad (some t) e = let z : ◌≡◌ {A = ℕ} 0 1 = cc in absurd (omega arith)
-
-pub trailer_is : (o : Option Trailer) {a b : ℕ} → Some (a, b) ≡ trailer_of o → o ≡ some (record { size = a; count = b })
-trailer_is none e = let z : ◌≡◌ {A = ℕ} 0 1 = cc in absurd (omega arith)
-trailer_is (some t) e = ap₂ (λ (x y : ℕ). some (record { size = x; count = y })) (sym (both_are e).0) (sym (both_are e).1)
-
-required : {A : Type 0} (t : Bool) (o : Option A) {a : A} → require t o ≡ some a → T t × (o ≡ some a)
-unfolding require pick
-required true o e = (tt, e)
-required false o e = let z : ◌≡◌ {A = ℕ} 0 1 = cc in absurd (omega arith)
-
-read_on : {A B : Type 0} (r : Read A) (k : A → List ℕ → Option B) {b : B} → next r k ≡ some b → (x : A) × (bs : List ℕ) × (k x bs ≡ some b)
-unfolding next
-read_on none k e = let z : ◌≡◌ {A = ℕ} 0 1 = cc in absurd (omega arith)
-read_on (some x) k e = (x.0, x.1, e)
-
-size_of : {x y : Trailer} → some x ≡ some y → x.size ≡ y.size
-size_of {x} {y} e = let z : x ≡ y = cc in ap (λ (t : Trailer). t.size) z
-
-matched : (file distance count size : ℕ) → T (matches file distance count size) → size + distance + 16 ≡ file
-unfolding matches
-matched file distance count size t =
-    let y = and_yes (leb count 128) _ t in
-    eqb→eq (size + distance + 16) file (and_yes (eqb distance (8 * count)) _ y.1).1
-
--- the stack lies in the file
-pub trailer_inside : (file : List ℕ) {a b : ℕ} → read_trailer file ≡ some (record { size = a; count = b }) → (a ≤ length file) × (a ≤ 65536)
-unfolding read_trailer
-trailer_inside file {a} {b} e =
-    let x = required (leb 16 (length file) && leb (length file) 65536) _ e in
-    let d = read_on _ _ x.1 in
-    let c = read_on _ _ d.2 in
-    let s = read_on _ _ c.2 in
-    let m = required _ _ s.2 in
-    let w : s.0 + d.0 + 16 ≡ length file = matched (length file) d.0 c.0 s.0 m.0 in
-    let small : length file ≤ 65536 = leb→le (length file) 65536 (and_yes (leb 16 (length file)) _ x.0).1 in
-    let same : s.0 ≡ a = size_of m.1 in
-    (omega arith, omega arith)
 
 -- ---- the machine
 
@@ -90,18 +43,35 @@ module _ (ms : List ℕ) (frames : Result walk.Chain) where
     unfolding pick
     right_word e = rw (ok, ← is) (sym (if-eq m.word 8 frames (bad 12) e))
 
--- the frames, by what the code made of the machine and of the file
-pub frames_of_lem : (src : Source) (pc : ℕ) (memory : Memory) (functions : List ℕ) {m n : Machine} {ss ts : List Slot} → m ≡ n → ss ≡ ts
-    → frames_f src (fault_of m memory functions) 64 (record { slots = ss; pc = pc; exact = true })
-    ≡ frames_f src (fault_of n memory functions) 64 (record { slots = ts; pc = pc; exact = true })
-frames_of_lem src pc memory functions e f = rw (e, f)
+-- the answer of question 11
+module _ (ms : List ℕ) {r : code.Result Machine Question} (h : r ≡ pick (machine_ok ms) (Ok (machine_of ms)) (Err Interface)) where
+  read_by : (b : Bool) → r ≡ pick b (Ok (machine_of ms)) (Err Interface) → {m : Machine} → r ≡ Ok m → (b ≡ true) × (m ≡ machine_of ms)
+  unfolding pick
+  read_by true k e = (refl, cc)
+  read_by false k e = cc
+
+  unread_by : (b : Bool) → r ≡ pick b (Ok (machine_of ms)) (Err Interface) → {q : Question} → r ≡ Err q → (b ≡ false) × (q ≡ Interface)
+  unfolding pick
+  unread_by true k e = cc
+  unread_by false k e = (refl, cc)
+
+  pub machine_read : {m : Machine} → r ≡ Ok m → (machine_ok ms ≡ true) × (m ≡ machine_of ms)
+  machine_read e = read_by (machine_ok ms) h e
+
+  pub machine_unread : {q : Question} → r ≡ Err q → (machine_ok ms ≡ false) × (q ≡ Interface)
+  machine_unread e = unread_by (machine_ok ms) h e
+
+-- the frames, by what the code made of the machine
+pub frames_of_lem : (src : Source) (memory : Memory) (functions : List ℕ) (start : walk.Caller) {m n : Machine} → m ≡ n
+    → frames_f src (fault_of m memory functions) 64 start ≡ frames_f src (fault_of n memory functions) 64 start
+frames_of_lem src memory functions start e = rw e
 
 -- ---- the whole
 
 module _ (src : Source) (ms file : List ℕ) (pc stack : ℕ) (functions : List ℕ) (room : ℕ) where
-  pub no_file : read_trailer file ≡ none → walk_by src ms file pc stack functions room ≡ bad 73
-  unfolding walk_by read_recorded onward or_else after
-  no_file e = rw e
+  pub no_file : none ≡ read_recorded file → walk_by src ms file pc stack functions room ≡ bad 73
+  unfolding walk_by onward or_else
+  no_file e = rw (← e)
 
   moved : (a b : Bool) (r : Result walk.Chain)
       → pick a (pick b (onward r (fitting room)) (bad 12)) (bad 11) ≡ onward (pick a (pick b r (bad 12)) (bad 11)) (fitting room)
@@ -110,11 +80,11 @@ module _ (src : Source) (ms file : List ℕ) (pc stack : ℕ) (functions : List 
   moved true false r = refl
   moved false b r = refl
 
-  pub with_file : {size count : ℕ} → read_trailer file ≡ some (record { size = size; count = count })
+  pub with_file : {r : Recorded} → some r ≡ read_recorded file
       → walk_by src ms file pc stack functions room
-      ≡ onward (asked ms (frames_f src (fault_of (machine_of ms) (record { address = stack; bytes = take size file }) functions) 64 (record { slots = slots_of count (drop size file); pc = pc; exact = true }))) (fitting room)
-  unfolding walk_by read_recorded onward or_else after
-  with_file e = rw e (moved (machine_ok ms) (eqb (machine_of ms).word 8) _)
+      ≡ onward (asked ms (frames_f src (fault_of (machine_of ms) (record { address = stack; bytes = r.stack }) functions) 64 (record { slots = r.slots; pc = pc; exact = true }))) (fitting room)
+  unfolding walk_by onward or_else
+  with_file e = rw (← e) (moved (machine_ok ms) (eqb (machine_of ms).word 8) _)
 
 -- ---- the list that is lent
 

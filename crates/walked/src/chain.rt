@@ -9,11 +9,11 @@ use walk::Frame;
 #[derive(Clone, Copy)]
 pub enum Ending {
     // the return address is undefined
-    Undefined,
+    Undefined = 1,
     // no function holds the address
-    Unheld,
+    Unheld = 2,
     // a 65th frame would follow
-    TooMany,
+    TooMany = 3,
 }
 
 impl Ending {
@@ -21,11 +21,7 @@ impl Ending {
     pub fn number(self) -> u64
         ensures { result ≡ ending_number self }
     {
-        match self {
-            Ending::Undefined => 1,
-            Ending::Unheld => 2,
-            Ending::TooMany => 3,
-        }
+        self as u64
     }
 }
 

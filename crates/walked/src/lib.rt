@@ -7,7 +7,6 @@ ghost use Rattle.format.specs.Numbers.{number_of};
 ghost use Rattle.format.specs.Machine.{is_word_size, machine_ok, machine_of};
 ghost use Rattle.format.specs.Rules.{rules_for};
 ghost use Rattle.format.specs.declared.Rule.TheVariants.{Unstated};
-ghost use Rattle.walk.specs.Recorded.{slots_of};
 ghost use Rattle.walk.specs.Walk.{left_by, left_from, left, returned_to, caller_of, frames_f, fitting, walk_by, by_section};
 ghost use Rattle.walk.specs.Standing.{memory_of, slots, left_of, caller_as, step_of};
 ghost use Rattle.walked.specs.Entry.{numbers_of, chain_numbers, chain_stored};
@@ -22,7 +21,7 @@ use arrayvec::ArrayVec;
 use format::{Machine, Operation, Question, Row, Rules};
 use reader::location::Located;
 use reader::operation::Operations;
-use walk::{Caller, Frame, Memory};
+use walk::{Caller, Frame, Holder, Memory};
 
 pub mod chain;
 pub mod fault;
@@ -39,46 +38,45 @@ pub struct Place<'a> {
 // ---- the registers that a record and its header name
 
 // The registers 0 to 127 that an operation names.
-// Kept: a struct around the array. Tried without it: a loop that assigns the array a call gives back to a local gets no proof.
 #[derive(Clone, Copy)]
 pub struct Marks {
     pub named: [bool; 128],
 }
 
-fn mark(mut m: Marks, reg: u16) -> Marks
-    ensures { Marked m.named result.named (λ q. eqb q reg) }
-{
-    if reg < 128 {
-        m.named[reg as usize] = true;
+impl Marks {
+    fn mark(&mut self, reg: u16)
+        ensures { Marked self.old.named self.new.named (λ q. eqb q reg) }
+    {
+        if reg < 128 {
+            self.named[reg as usize] = true;
+        }
     }
-    m
-}
 
-fn mark_row(m: Marks, row: Row) -> Marks
-    ensures { Marked m.named result.named (λ q. names q row) }
-{
-    match row {
-        Row::DefCfa(_, _) => m,
-        Row::DefCfaOffset(_) => m,
-        Row::DefCfaRegister(_) => m,
-        Row::Offset(reg, _) => mark(m, reg),
-        Row::Restore(reg) => mark(m, reg),
-        Row::Undefined(reg) => mark(m, reg),
-        Row::RememberState => m,
-        Row::RestoreState => m,
-        Row::NegateRaState => m,
-        Row::SameValue(reg) => mark(m, reg),
-        Row::InRegister(reg, _) => mark(m, reg),
+    fn mark_row(&mut self, row: Row)
+        ensures { Marked self.old.named self.new.named (λ q. names q row) }
+    {
+        match row {
+            Row::Offset(reg, _)
+            | Row::Restore(reg)
+            | Row::Undefined(reg)
+            | Row::SameValue(reg)
+            | Row::InRegister(reg, _) => self.mark(reg),
+            Row::DefCfa(_, _)
+            | Row::DefCfaOffset(_)
+            | Row::DefCfaRegister(_)
+            | Row::RememberState
+            | Row::RestoreState
+            | Row::NegateRaState => {}
+        }
     }
-}
 
-fn mark_operation(m: Marks, op: Operation) -> Marks
-    ensures { Marked m.named result.named (λ q. operation_names q op) }
-{
-    match op {
-        Operation::Nop => m,
-        Operation::Step(_) => m,
-        Operation::Does(row) => mark_row(m, row),
+    fn mark_operation(&mut self, op: Operation)
+        ensures { Marked self.old.named self.new.named (λ q. operation_names q op) }
+    {
+        match op {
+            Operation::Nop | Operation::Step(_) => {}
+            Operation::Does(row) => self.mark_row(row),
+        }
     }
 }
 
@@ -92,7 +90,7 @@ fn mark_all(ops: &[u8], word: u64, start: Marks) -> Marks
         let Some((op, _)) = read else {
             return m;
         };
-        m = mark_operation(m, op);
+        m.mark_operation(op);
     }
     m
 }
@@ -121,10 +119,12 @@ impl Leaving<'_, '_> {
             return Ok(walk::slot(&self.registers, reg));
         }
         let rules = reader::rules_at(self.at.section, self.at.located, reg as u16, self.at.p)?;
-        walk::left_by(&self.registers, rules.rule, reg, self.memory, cfa)
+        self.memory.left_by(&self.registers, rules.rule, reg, cfa)
     }
 
     // All of them.
+    // Kept: a loop over their numbers. Each is what `one` is asked, the place of its mark and the place that is stored; with an iterator over the
+    // registers it would still be counted beside (`enumerate`), and the marks zipped to it.
     fn all_left(&self, cfa: u64) -> Result<[Option<u64>; 128], Question>
         ensures { all_left result ≡ left_from (λ reg. left_by (memory_of self.now.memory) cfa (slots self.now.registers) reg ((rules_at self.now.at).rules reg)) 0 128 }
     {
@@ -168,6 +168,7 @@ impl Leaving<'_, '_> {
 }
 
 // The section that the rules come from, its relocations and its kind.
+// Kept: `kind` is a number: C hands it in and `reader::locate` takes any.
 #[derive(Clone, Copy)]
 pub struct Section<'a> {
     pub bytes: &'a [u8],
@@ -191,21 +192,20 @@ impl Fault<'_, '_, '_> {
         frame.left_by_rules(rules)
     }
 
-    // The caller of a frame at an offset of record k: one pass over the section.
+    // The caller of a frame by the function that holds it: one pass over the section.
     fn caller_by(
         &self,
         registers: [Option<u64>; 128],
-        k: u64,
-        p: u64,
+        holder: Holder,
     ) -> Result<Option<Caller>, Question>
-        ensures { step_of result ≡ onward (section_of self.now.section k p) (λ u. caller_of self.now.machine (memory_of self.now.memory) u (slots registers)) }
+        ensures { step_of result ≡ onward (section_of self.now.section holder.position holder.offset) (λ u. caller_of self.now.machine (memory_of self.now.memory) u (slots registers)) }
     {
         let s = self.section;
-        let located = reader::locate(s.bytes, s.relocations, s.kind, 8, k)?;
+        let located = reader::locate(s.bytes, s.relocations, s.kind, 8, holder.position)?;
         let at = Place {
             section: s.bytes,
             located,
-            p,
+            p: holder.offset,
         };
         self.caller(registers, at)
     }
@@ -219,18 +219,17 @@ impl Fault<'_, '_, '_> {
         let mut caller = start;
         let mut frames = ArrayVec::new();
         'callers: while !frames.is_full() {
-            let Some((position, offset)) = walk::held(self.functions, caller.exact, caller.pc)
-            else {
+            let Some(holder) = walk::held(self.functions, caller.exact, caller.pc) else {
                 return Ok(Chain {
                     frames,
                     ending: Ending::Unheld,
                 });
             };
             frames.push(Frame {
-                position,
+                position: holder.position,
                 pc: caller.pc,
             });
-            let Some(next) = self.caller_by(caller.registers, position, offset)? else {
+            let Some(next) = self.caller_by(caller.registers, holder)? else {
                 return Ok(Chain {
                     frames,
                     ending: Ending::Undefined,
@@ -248,36 +247,21 @@ impl Fault<'_, '_, '_> {
 
 // ---- the entry
 
-// 11 and 12 for the machine, and then the frames, from the registers behind the stack of the record file.
-fn recorded(
+// 11 and 12 for the machine, and then the frames.
+// Kept: its parameters one by one: all but the start are `Fault`'s, which knows `ret` and is made once question 11 has passed.
+fn chain_of(
     machine: &[u64],
-    file: &[u8],
-    size: usize,
-    count: usize,
     section: Section,
-    pc: u64,
-    stack: u64,
+    memory: Memory,
     functions: &[u64],
+    start: Caller,
 ) -> Result<Chain, Question>
-    requires { (size ≤ length file.now) × (size ≤ 65536) }
-    ensures { walked_of result ≡ pick (machine_ok machine.now) (pick (eqb (machine_of machine.now).word 8) (frames_f (section_of section.entry) (fault_of (machine_of machine.now) (record { address = stack; bytes = take size file.now }) functions.now) 64 (record { slots = slots_of count (drop size file.now); pc = pc; exact = true })) (bad 12)) (bad 11) }
+    ensures { walked_of result ≡ pick (machine_ok machine.now) (pick (eqb (machine_of machine.now).word 8) (frames_f (section_of section.entry) (fault_of (machine_of machine.now) (memory_of memory.entry) functions.now) 64 (caller_as start)) (bad 12)) (bad 11) }
 {
-    if !lists::machine_ok(machine) {
-        return Err(Question::Interface);
-    }
-    let known = lists::machine_of(machine);
+    let known = lists::read_machine(machine)?;
     if known.word != 8 {
         return Err(Question::X64Word);
     }
-    let start = Caller {
-        registers: walk::registers(file, size, count),
-        pc,
-        exact: true,
-    };
-    let memory = Memory {
-        address: stack,
-        bytes: &file[..size],
-    };
     let fault = Fault {
         machine: known,
         section,
@@ -290,20 +274,21 @@ fn recorded(
 // What `unwind_walk` answers: 0 or a refusal's number, the count of frames that are stored, and why the walk ended.
 // Kept: a number and fields that are 0 where it refuses, since C reads it.
 #[repr(C)]
-#[derive(Clone, Copy)]
+#[derive(Clone, Copy, Default)]
 pub struct Answer {
     pub number: u64,
     pub frames: u64,
     pub ending: u64,
 }
 
-fn refusing(question: Question) -> Answer
-    ensures { numbers_of result ≡ number_of question ∷ 0 ∷ 0 ∷ [] }
-{
-    Answer {
-        number: question.number(),
-        frames: 0,
-        ending: 0,
+impl From<Question> for Answer {
+    ghost from_gives = { λ q a. numbers_of a ≡ number_of q ∷ 0 ∷ 0 ∷ [] };
+
+    fn from(question: Question) -> Answer {
+        Answer {
+            number: question.number(),
+            ..Answer::default()
+        }
     }
 }
 
@@ -314,10 +299,10 @@ fn stored(r: Result<Chain, Question>, out: &mut [u64]) -> Answer
 {
     let chain = match r {
         Ok(chain) => chain,
-        Err(question) => return refusing(question),
+        Err(question) => return Answer::from(question),
     };
     if out.len() / walk::FRAME_STRIDE < chain.frames.len() {
-        return refusing(Question::OtherRoom);
+        return Answer::from(Question::OtherRoom);
     }
     walk::store(chain.frames.as_slice(), out);
     Answer {
@@ -345,14 +330,23 @@ pub extern "C" fn unwind_walk(
     ensures result_value { numbers_of result ≡ chain_numbers (walk_by (by_section section.now relocations.now kind) machine.now file.now pc stack functions.now (length frames.old)) }
     ensures frames_after { frames.new ≡ chain_stored (walk_by (by_section section.now relocations.now kind) machine.now file.now pc stack functions.now (length frames.old)) frames.old }
 {
-    let Some((size, count)) = walk::read_trailer(file) else {
-        return refusing(Question::Recorded);
+    let Some(recorded) = walk::read_recorded(file) else {
+        return Answer::from(Question::Recorded);
     };
     let from = Section {
         bytes: section,
         relocations,
         kind,
     };
-    let r = recorded(machine, file, size, count, from, pc, stack, functions);
+    let memory = Memory {
+        address: stack,
+        bytes: recorded.stack,
+    };
+    let start = Caller {
+        registers: recorded.registers,
+        pc,
+        exact: true,
+    };
+    let r = chain_of(machine, from, memory, functions, start);
     stored(r, frames)
 }

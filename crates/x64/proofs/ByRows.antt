@@ -2,7 +2,7 @@
 use mathlib.Core.Path.{◌≡◌, refl, sym, ap, ◌∙◌}
 use Prim.Native.Nat.{ℕ, zero, suc, ◌^◌, ◌<◌}
 use native.Mathlib.Omega.{arith}
-use mathlib.Core.Bool.{true, false, ◌&&◌}
+use mathlib.Core.Bool.{Bool, true, false, ◌&&◌}
 use mathlib.Core.Option.{none, some}
 use mathlib.Core.List.{List, [], ◌∷◌}
 use lib.Dec.{T, leb, eqb, leb→le, eqb→eq}
@@ -11,6 +11,7 @@ use lib.Seq.{length-take-le}
 use Rattle.format.specs.Prelude.{pick, Result, good, bad, each}
 use Rattle.format.specs.declared.Machine.{Machine}
 use Rattle.std.specs.Prelude.{Err}
+use Rattle.std.specs.Prelude as outcome
 use Rattle.format.specs.Coded.{Outcome}
 use Rattle.format.specs.Machine.{machine_of, machine_ok}
 use Rattle.format.specs.Lists.{Function, Prologue, field, count, function_stride, row_stride, landing_stride, pair_stride, most_functions, most_records, sum_of, pairs_in, inside, symbol_ok, pointer_ok, mark_ok, when_marked, all_in, row_ok_at, pair_ok_at, function_ok_at, lists_ok, function_at, functions_of}
@@ -110,6 +111,17 @@ module _ (x : X64Machine) (fs rows landings pairs : List ℕ) where
 map_long : (ms : List ℕ) → T (machine_ok ms) → length (machine_of ms).map ≡ 64
 unfolding machine_of
 map_long ms t = length-take-le 64 (drop 6 ms) (simp length-drop (omega (arith, long ms t)))
+
+-- the answer of question 11
+pub machine_yes : {M Q : Type 0} (b : Bool) (x y : M) (q : Q) → outcome.Ok y ≡ pick b (outcome.Ok x) (outcome.Err q) → (b ≡ true) × (y ≡ x)
+unfolding pick
+machine_yes true x y q e = (refl, cc)
+machine_yes false x y q e = cc
+
+pub machine_no : {M Q : Type 0} (b : Bool) (x : M) (q p : Q) → outcome.Err p ≡ pick b (outcome.Ok x) (outcome.Err q) → (b ≡ false) × (p ≡ q)
+unfolding pick
+machine_no true x q p e = cc
+machine_no false x q p e = (refl, cc)
 
 -- what the struct of a machine of eight bytes holds
 pub machine_known : (ms : List ℕ) {m : Machine} → machine_ok ms ≡ true → m ≡ machine_of ms → eqb m.word 8 ≡ true

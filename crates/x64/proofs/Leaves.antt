@@ -1,53 +1,62 @@
--- What one record yields, from direct codes and from rows, and what a loop takes from it.
+-- What one record yields, from direct codes and from rows, and the codes of a function.
 use mathlib.Core.Path.{◌≡◌, refl}
 use Prim.Native.Nat.{ℕ, zero, suc, ◌≤◌}
 use native.Mathlib.Omega.{arith}
-use mathlib.Core.Option.{Option, none, some}
-use mathlib.Core.List.{List, [], ◌∷◌}
+use mathlib.Core.List.{List, [], ◌∷◌, ◌++◌}
 use lib.IntN.{ℤ}
-use Rattle.format.specs.Prelude.{each}
+use lib.ListN.{length}
+use Rattle.std.proofs.Common.{Bor}
+use Rattle.format.specs.Prelude.{Result, good, bad, each}
+use Rattle.format.specs.declared.Machine.{Machine}
 use Rattle.format.specs.declared.Seh.{Seh}
 use Rattle.format.specs.Lists.{code_at}
-use Rattle.format.specs.Writer.{joined}
-use Rattle.format.specs.X64.{or_no, first_no, slots}
-use Rattle.codes.proofs.Sizes.{slots_most}
-use Rattle.std.specs.Prelude.{Some, None}
-use Rattle.std.specs.Prelude as code
+use Rattle.format.specs.X64.{Step, code_for}
 use Rattle.prologue.specs.declared.given.X64Machine.{X64Machine}
-use Rattle.prologue.specs.Pieces.{piece_of, moved_in, pieces_from}
-use Rattle.x64.specs.declared.given.Source.TheVariants.{Direct, Rows}
-use Rattle.x64.specs.declared.given.Span.{Span}
-use Rattle.x64.specs.Sources.{piece_at, moved_at, each_piece}
+use Rattle.prologue.specs.declared.given.Shape.{Shape}
+use Rattle.prologue.specs.Given.{rows_in}
+use Rattle.prologue.specs.Pieces.{code_in, codes_in, row_step, step_in, piece_in, moved_in, pieces_from}
+use Rattle.format.proofs.Choice.{picked}
+use Rattle.x64.specs.declared.given.Records.{Records}
+use Rattle.x64.specs.declared.given.Records.TheVariants.{Codes, ByRows}
+use Rattle.x64.specs.Sources.{piece_at, moved_at, codes_from}
 
--- the codes of a function
-module _ (list : List ℕ) (p : Span) where
-  pub direct_codes : (sofar : ℤ) (i n : ℕ) → each (code_at list) i n ≡ joined (each_piece Direct list p sofar i n)
-  unfolding each joined each_piece piece_at moved_at
-  direct_codes sofar i zero = refl
-  direct_codes sofar i (suc n) = rw (direct_codes sofar (suc i) n)
+-- ---- one record
 
-  pub rows_codes : (m : X64Machine) (sofar : ℤ) (i n : ℕ) → pieces_from m.machine.now p.below sofar list p.first i p.past n ≡ joined (each_piece (Rows m) list p sofar i n)
-  unfolding pieces_from joined each_piece piece_at moved_at
-  rows_codes m sofar i zero = refl
-  rows_codes m sofar i (suc n) = rw (rows_codes m (moved_in sofar list i) (suc i) n)
+code_few : (off : ℕ) (r : Result Seh) → length (code_in off r ++ []) ≤ 1
+unfolding code_in
+code_few off (good c) = omega arith
+code_few off (bad n) = omega arith
 
--- a record has at most three slots
-pub slots_few : (q : code.Option (ℕ × Seh)) → slots (piece_of q) ≤ 3
-unfolding piece_of slots
-slots_few None = omega arith
-slots_few (Some x) = slots_most (x ∷ [])
+module _ (m : Machine) (below : ℤ) where
+  abbrev Few : List (ℕ × Step) → Type 0
+  Few xs = length (codes_in m below xs) ≤ 1
 
--- ---- a list of one
+  no_step : Few []
+  unfolding codes_in
+  no_step = omega arith
 
-or_none : (o : Option ℕ) → o ≡ or_no o none
-unfolding or_no
-or_none none = refl
-or_none (some n) = refl
+  one_step : (off : ℕ) (s : Step) → Few ((off, s) ∷ [])
+  unfolding codes_in
+  one_step off s = code_few off (code_for m below s)
 
-pub no_of_one : {A : Type 0} (f : A → Option ℕ) (x : A) → f x ≡ first_no f (x ∷ [])
-unfolding first_no
-no_of_one f x = or_none (f x)
+  row_few : (sofar : ℤ) (rows : List ℕ) (at i end : ℕ) → length (piece_in m below sofar rows at i end) ≤ 1
+  unfolding piece_in step_in row_step
+  row_few sofar rows at i end =
+      picked Few _ (picked Few _ no_step (one_step _ _)) (picked Few _ (picked Few _ (one_step _ _) (one_step _ _)) (picked Few _ (one_step _ _) no_step))
 
-pub of_one : (f : ℕ × Seh → Option ℕ) {q : code.Option (ℕ × Seh)} {at : ℕ} {code : Seh} → q ≡ Some (at, code) → f (at, code) ≡ first_no f (piece_of q)
-unfolding piece_of
-of_one f {q} {at} {code} e = rw e (no_of_one f (at, code))
+pub piece_few : (r : Records) (sofar : ℤ) (i : ℕ) → length (piece_at r sofar i) ≤ 1
+unfolding piece_at
+piece_few (Codes list) sofar i = omega arith
+piece_few (ByRows m p) sofar i = row_few m.machine.now p.below sofar p.rows.rows.now 0 i (rows_in p.rows)
+
+-- ---- the codes of a function
+
+pub direct_codes : (list : Bor (List ℕ)) (sofar : ℤ) (i n : ℕ) → each (code_at list.now) i n ≡ codes_from (Codes list) sofar i n
+unfolding each codes_from piece_at moved_at
+direct_codes list sofar i zero = refl
+direct_codes list sofar i (suc n) = rw (direct_codes list sofar (suc i) n)
+
+pub rows_codes : (m : X64Machine) (p : Shape) (sofar : ℤ) (i n : ℕ) → pieces_from m.machine.now p.below sofar p.rows.rows.now 0 i (rows_in p.rows) n ≡ codes_from (ByRows m p) sofar i n
+unfolding pieces_from codes_from piece_at moved_at
+rows_codes m p sofar i zero = refl
+rows_codes m p sofar i (suc n) = rw (rows_codes m p (moved_in sofar p.rows.rows.now i) (suc i) n)

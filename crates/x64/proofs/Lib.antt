@@ -2,7 +2,7 @@
 pub mod Stored
 pub mod Walks
 pub mod Leaves
-pub mod Held
+pub mod Parts
 pub mod Asked
 pub mod Infos
 pub mod Spans

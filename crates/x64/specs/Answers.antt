@@ -1,12 +1,13 @@
 -- Both writers' answers by the numbers of functions one after another.
-use Rattle.std.specs.Prelude.{◌≡◌, ℕ, zero, suc, ◌+◌, ◌*◌, List, [], map}
+use Rattle.std.specs.Prelude.{◌≡◌, ℕ, zero, suc, ◌+◌, ◌*◌, ◌/◌, List, [], map, length}
 use Rattle.std.proofs.Math.Option.{Option, none}
 use Rattle.format.specs.Lists.{Prologue, field, relocation_stride}
 use Rattle.format.specs.Questions.{Question, and_then, no_at}
 use Rattle.format.specs.Writer.{joined}
-use Rattle.format.specs.X64.{code_no, first_no, slots, info_bytes}
+use Rattle.format.specs.X64.{code_no, code_bytes, first_no, slots, info_bytes}
 use Rattle.format.specs.declared.Seh.{Seh}
 use Rattle.codes.specs.Codes.{yes_or_no, frame_ask}
+use Rattle.codes.specs.declared.UnwindCode.{UnwindCode}
 use Rattle.x64.specs.declared.Summary.{Summary}
 use Rattle.format.specs.Coded.{numbered}
 use Rattle.format.proofs.Asked.{Asked}
@@ -30,16 +31,20 @@ named symbol size = record { symbol = symbol; size = size; end = 0; codes = [] }
 abbrev pub named_at : (stride : ℕ) (fs : List ℕ) → ℕ → Prologue
 named_at stride fs k = named (field stride fs k 0) (field stride fs k 1)
 
--- a summary of some codes, and one of those of t and of codes behind them
+-- a code with its offset
+abbrev pub pair_of : UnwindCode → ℕ × Seh
+pair_of c = (c.offset, c.code)
+
+-- a summary of some codes, and one of those of t and of a code behind them
 pub record SummaryOf (cs : List (ℕ × Seh)) (r : Summary) : Type 0 where
   pub codes : numbered r.codes ≡ yes_or_no (first_no code_no cs)
   pub slots : r.slots ≡ slots cs
   pub frames : numbered r.frames ≡ yes_or_no (first_no frame_ask cs)
 
-pub record Summed (t : Summary) (cs : List (ℕ × Seh)) (r : Summary) : Type 0 where
-  pub codes : numbered r.codes ≡ result_and (numbered t.codes) (yes_or_no (first_no code_no cs))
-  pub slots : r.slots ≡ t.slots + slots cs
-  pub frames : numbered r.frames ≡ result_and (numbered t.frames) (yes_or_no (first_no frame_ask cs))
+pub record Summed (t : Summary) (c : ℕ × Seh) (r : Summary) : Type 0 where
+  pub codes : numbered r.codes ≡ result_and (numbered t.codes) (yes_or_no (code_no c))
+  pub slots : r.slots ≡ t.slots + length (code_bytes c.0 c.1) / 2
+  pub frames : numbered r.frames ≡ result_and (numbered t.frames) (yes_or_no (frame_ask c))
 
 -- an answer with the function's position
 abbrev pub refused_at : ℕ → Result Unit ℕ → Asked

@@ -9,31 +9,27 @@ use Rattle.format.specs.X64.{info_bytes}
 use Rattle.format.specs.Questions.{Question}
 use Rattle.format.specs.Writer.{Written}
 use Rattle.x64.specs.Answers.{infos_of, named_at}
-use Rattle.x64.specs.Listed.{stride_of}
-use Rattle.x64.specs.Sources.{piece_at, moved_at, each_piece, pieces_in, codes_in, result_at, Found, Agreed, found_at, asks_of, table_of}
+use Rattle.x64.specs.Listed.{stride_of, records_in}
+use Rattle.x64.specs.Sources.{piece_at, moved_at, codes_from, codes_in, result_at, Found, Agreed, found_at, asks_of, table_of}
 use Rattle.x64.specs.declared.given.Input.{Input}
-use Rattle.x64.specs.declared.given.Pieces.{Pieces}
+use Rattle.x64.specs.declared.given.UnwindCodes.{UnwindCodes}
 use Rattle.x64.specs.declared.given.Span.{Span}
 
 -- ---- a function
 
--- what its records yield
-abbrev pub pieces_by : Span → List (List (ℕ × Seh))
-pieces_by p = pieces_in p.source p.list.now p
+-- what the next record yields, the distance behind it, and the codes from it on
+abbrev pub next_piece : UnwindCodes → List (ℕ × Seh)
+next_piece x = piece_at x.records x.sofar x.next
 
--- what the next record yields, the distance behind it, and what the records from it on yield
-abbrev pub next_piece : Pieces → List (ℕ × Seh)
-next_piece x = piece_at x.span.source x.span.list.now x.span x.sofar x.next
+abbrev pub next_moved : UnwindCodes → ℤ
+next_moved x = moved_at x.records x.sofar x.next
 
-abbrev pub next_moved : Pieces → ℤ
-next_moved x = moved_at x.span.source x.span.list.now x.sofar x.next
-
-abbrev pub pieces_left : Pieces → List (List (ℕ × Seh))
-pieces_left x = each_piece x.span.source x.span.list.now x.span x.sofar x.next (x.span.past - x.next)
+abbrev pub codes_left : UnwindCodes → List (ℕ × Seh)
+codes_left x = codes_from x.records x.sofar x.next (records_in x.records - x.next)
 
 -- its codes, and the bytes of its record
 abbrev pub codes_by : Span → List (ℕ × Seh)
-codes_by p = codes_in p.source p.list.now p
+codes_by p = codes_in p.records
 
 abbrev pub info_by : Span → List ℕ
 info_by p = info_bytes p.end (codes_by p)
@@ -59,7 +55,12 @@ AllAgreed x = Agreed x.source x.functions.now x.list.now x.count
 abbrev pub functions_of : Input → List Prologue
 functions_of x = each (found_at x.source x.functions.now x.list.now) 0 x.count
 
--- their records, one behind the other
+-- the record of function k, and their records, one behind the other
+abbrev pub info_in : Input → ℕ → List ℕ
+info_in x k =
+    let p = found_at x.source x.functions.now x.list.now k in
+    info_bytes p.end p.codes
+
 abbrev pub infos_in : Input → List ℕ
 infos_in x = infos_of (functions_of x)
 

@@ -1,22 +1,18 @@
 -- What is known of the lists once questions 11 to 13 were answered by yes: each function's records are there.
 use Rattle.std.specs.Prelude.{ℕ, ◌+◌, ◌*◌, ◌^◌, ◌≤◌, ◌<◌, List, length}
 use denote.Struct.Props as logic
-use Rattle.std.specs.Coded.{le_prop}
 use Rattle.format.specs.Lists.{field, function_stride, prologue_stride, code_stride, count, most_records, most_functions}
 use Rattle.header_keys.specs.Functions.{RowsReady}
-use Rattle.prologue.specs.Pieces.{Ready}
+use Rattle.prologue.specs.Given.{rows_in}
+use Rattle.x64.specs.declared.given.Records.{Records}
+use Rattle.x64.specs.declared.given.Records.TheVariants.{Codes, ByRows}
 use Rattle.x64.specs.declared.given.Source.{Source}
 use Rattle.x64.specs.declared.given.Source.TheVariants.{Direct, Rows}
 
--- the records from `first` to `past` are there
-unfoldable pub HeldBy : Source → (list : List ℕ) → (first past : ℕ) → Type 0
-HeldBy Direct list first past = code_stride * past ≤ length list
-HeldBy (Rows m) list first past = Ready list first past
-
-pub HeldBy-prop : (s : Source) (list : List ℕ) (first past : ℕ) → IsProp (HeldBy s list first past)
-unfolding HeldBy
-HeldBy-prop Direct list first past = le_prop
-HeldBy-prop (Rows m) list first past = Prim.hlevel logic.props
+-- how many records say a function's codes
+unfoldable pub records_in : Records → ℕ
+records_in (Codes list) = count code_stride list.now
+records_in (ByRows m p) = rows_in p.rows
 
 -- how many numbers the record of a function has
 unfoldable pub stride_of : Source → ℕ

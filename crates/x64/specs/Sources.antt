@@ -7,55 +7,51 @@ use Rattle.format.specs.Numbers.{number_of}
 use Rattle.format.specs.declared.question.Question as question
 use Rattle.format.specs.declared.Machine.{Machine}
 use Rattle.format.specs.declared.Seh.{Seh}
-use Rattle.format.specs.Lists.{Function, Prologue, field, function_stride, prologue_stride, code_at, function_at, prologue_at}
+use Rattle.format.specs.Lists.{Function, Prologue, field, code_at, function_at, prologue_at}
 use Rattle.format.specs.X64.{codes_of, prologue_of, prologue_no, x64}
 use Rattle.format.specs.Questions.{Question, and_then}
-use Rattle.format.specs.Writer.{Written, joined}
-use Rattle.prologue.specs.declared.given.X64Machine.{X64Machine}
-use Rattle.prologue.specs.Pieces.{piece_in, moved_in, end_in, Says, Shaped}
+use Rattle.format.specs.Writer.{Written}
+use Rattle.prologue.specs.Pieces.{piece_in, moved_in}
+use Rattle.prologue.specs.Given.{rows_in}
+use Rattle.x64.specs.declared.given.Records.{Records}
+use Rattle.x64.specs.declared.given.Records.TheVariants.{Codes, ByRows}
 use Rattle.x64.specs.Answers.{ask_each}
-use Rattle.x64.specs.Listed.{stride_of}
+use Rattle.x64.specs.Listed.{stride_of, records_in}
 use Rattle.x64.specs.declared.given.Source.{Source}
 use Rattle.x64.specs.declared.given.Source.TheVariants.{Direct, Rows}
 use Rattle.x64.specs.declared.given.Span.{Span}
 
 -- ---- a function's codes
 
--- record i of those of a function, with the distance `sofar` in front of it: a code at its offset, or none
-unfoldable pub piece_at : Source → (list : List ℕ) → Span → (sofar : ℤ) → ℕ → List (ℕ × Seh)
-piece_at Direct list p sofar i = code_at list i ∷ []
-piece_at (Rows m) list p sofar i = piece_in m.machine.now p.below sofar list p.first i p.past
+-- what record i yields, with the distance `sofar` in front of it: a code at its offset, or none
+unfoldable pub piece_at : Records → (sofar : ℤ) → ℕ → List (ℕ × Seh)
+piece_at (Codes list) sofar i = code_at list.now i ∷ []
+piece_at (ByRows m p) sofar i = piece_in m.machine.now p.below sofar p.rows.rows.now 0 i (rows_in p.rows)
 
 -- the distance behind it
-unfoldable pub moved_at : Source → (list : List ℕ) → (sofar : ℤ) → ℕ → ℤ
-moved_at Direct list sofar i = sofar
-moved_at (Rows m) list sofar i = moved_in sofar list i
+unfoldable pub moved_at : Records → (sofar : ℤ) → ℕ → ℤ
+moved_at (Codes list) sofar i = sofar
+moved_at (ByRows m p) sofar i = moved_in sofar p.rows.rows.now i
 
 -- the distance in front of the first; direct codes pass none on
-unfoldable pub pushed_by : Source → ℕ
-pushed_by Direct = 0
-pushed_by (Rows m) = m.machine.now.pushed
+unfoldable pub pushed_by : Records → ℕ
+pushed_by (Codes list) = 0
+pushed_by (ByRows m p) = m.machine.now.pushed
 
--- what n records from i on yield
-unfoldable pub each_piece : Source → (list : List ℕ) → Span → (sofar : ℤ) → (i n : ℕ) → List (List (ℕ × Seh))
-each_piece s list p sofar i zero = []
-each_piece s list p sofar i (suc n) = piece_at s list p sofar i ∷ each_piece s list p (moved_at s list sofar i) (suc i) n
+-- the codes of n records from i on
+unfoldable pub codes_from : Records → (sofar : ℤ) → (i n : ℕ) → List (ℕ × Seh)
+codes_from r sofar i zero = []
+codes_from r sofar i (suc n) = piece_at r sofar i ++ codes_from r (moved_at r sofar i) (suc i) n
 
--- what all of them yield, and their codes
-abbrev pub pieces_in : Source → (list : List ℕ) → Span → List (List (ℕ × Seh))
-pieces_in s list p = each_piece s list p (pos (pushed_by s)) p.first (p.past - p.first)
-
-abbrev pub codes_in : Source → (list : List ℕ) → Span → List (ℕ × Seh)
-codes_in s list p = joined (pieces_in s list p)
+-- and of all of them
+abbrev pub codes_in : Records → List (ℕ × Seh)
+codes_in r = codes_from r (pos (pushed_by r)) 0 (records_in r)
 
 -- ---- a function
 
 -- the function that a span means
-abbrev pub meant_by : Source → (list : List ℕ) → Span → Prologue
-meant_by s list p = record { symbol = p.symbol; size = p.length; end = p.end; codes = codes_in s list p }
-
 abbrev pub meant : Span → Prologue
-meant p = meant_by p.source p.list.now p
+meant p = record { symbol = p.symbol; size = p.length; end = p.end; codes = codes_in p.records }
 
 -- a function's prologue by its rows, or the number of a no
 abbrev pub by_rows : Machine → Function → Result Prologue
@@ -65,30 +61,6 @@ by_rows m f = onward (codes_of m f) λ cs. good (prologue_of f cs)
 unfoldable pub result_at : Source → (fs list : List ℕ) → ℕ → Result Prologue
 result_at Direct fs list k = good (prologue_at fs list k)
 result_at (Rows m) fs list k = by_rows m.machine.now (function_at fs list [] [] k)
-
--- function k of direct codes
-pub record DirectSpan (fs list : List ℕ) (k : ℕ) (p : Span) : Type 0 where
-  pub source : p.source ≡ Direct
-  pub given : p.list.now ≡ list
-  pub symbol : p.symbol ≡ field prologue_stride fs k 0
-  pub size : p.length ≡ field prologue_stride fs k 1
-  pub end : p.end ≡ field prologue_stride fs k 2
-  pub first : p.first ≡ field prologue_stride fs k 3
-  pub past : p.past ≡ field prologue_stride fs k 3 + field prologue_stride fs k 4
-
--- function k by its rows
-pub record RowsSpan (m : X64Machine) (fs list : List ℕ) (k : ℕ) (p : Span) : Type 0 where
-  pub source : p.source ≡ Rows m
-  pub given : p.list.now ≡ list
-  pub symbol : p.symbol ≡ field function_stride fs k 0
-  pub size : p.length ≡ field function_stride fs k 1
-  pub first : p.first ≡ field function_stride fs k 2
-  pub end : p.end ≡ end_in list p.first p.past
-  pub says : Says m.machine.now list (field function_stride fs k 2) (field function_stride fs k 3) (record { below = p.below; end = p.past })
-
-abbrev pub RowsFound : X64Machine → (fs list : List ℕ) → ℕ → code.Result Span question.Question → Type 0
-RowsFound m fs list k (Ok p) = RowsSpan m fs list k p
-RowsFound m fs list k (Err q) = Shaped m.machine.now list (field function_stride fs k 2) (field function_stride fs k 3) (Err q)
 
 -- what is found for function k
 pub record FoundAt (s : Source) (fs list : List ℕ) (k : ℕ) (p : Span) : Type 0 where

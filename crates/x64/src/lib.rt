@@ -11,31 +11,33 @@ ghost use Rattle.format.specs.Answers.{Writes};
 ghost use Rattle.format.specs.Coded.{numbered, numbered_at};
 ghost use Rattle.format.proofs.Asked.{question_of};
 ghost use Rattle.lists.specs.Lent.{room_of, WritesTo};
-ghost use Rattle.format.specs.X64.{runtime_relocs, runtime_from, markers_from, code_no, first_no, slots, prologue_no, frame_byte, reversed};
+ghost use Rattle.format.specs.X64.{runtime_relocs, runtime_from, markers_from, slots, prologue_no, frame_byte, reversed};
 ghost use Rattle.format.specs.Questions.{accepted, unless, fitting, given_functions, windows_asks, windows_answer, seh, given_of, room_in};
 ghost use Rattle.format.specs.Machine.{machine_of};
-ghost use Rattle.codes.specs.Codes.{Holds, yes_or_no, frame_ask};
-ghost use Rattle.prologue.specs.Pieces.{Short, piece_of};
+ghost use Rattle.codes.specs.Codes.{yes_or_no};
+ghost use Rattle.prologue.specs.Pieces.{piece_of};
+ghost use Rattle.prologue.specs.Readable.{Short};
 ghost use Rattle.x64.specs.declared.given.Source.TheVariants.{Direct, Rows};
-ghost use Rattle.x64.specs.Listed.{stride_of};
-ghost use Rattle.x64.specs.Sources.{pushed_by, DirectSpan, RowsFound, long_no, rows_no, codes_no};
-ghost use Rattle.x64.specs.Given.{next_piece, next_moved, pieces_left, pieces_by, codes_by, info_by, result_of, FoundIn, named_in, AllAgreed, functions_of, infos_in, asks_in, table_in};
-ghost use Rattle.x64.specs.Answers.{runtime_bytes, runtime_numbers, Summed, SummaryOf, refused_at};
+ghost use Rattle.x64.specs.Listed.{stride_of, records_in};
+ghost use Rattle.x64.specs.Sources.{pushed_by, FoundAt, Found, long_no, rows_no, codes_no};
+ghost use Rattle.x64.specs.Given.{next_piece, next_moved, codes_left, codes_by, info_by, info_in, result_of, FoundIn, named_in, functions_of, infos_in, asks_in, table_in};
+ghost use Rattle.x64.specs.Answers.{runtime_bytes, runtime_numbers, pair_of, Summed, SummaryOf, refused_at};
 
-use codes::{Code, code_no, frame_no, frame_or, head, nodes, nodes_size, put_nodes};
-use format::{Counts, Question, Refusal, Seh};
-use given::{Input, Pieces, Source, Span};
+use codes::{UnwindCode, frame_no, frame_or, head, put_nodes};
+use format::{Counts, Question, Refusal};
+use given::{Input, Records, Source, Span, UnwindCodes};
 use leb::fill;
 use lists::output::Output;
 use lists::{
-    Lists, code_at, code_offset_at, codes_ok, extent_at, machine_of, machine_ok, prologue_at, room,
-    word_ok,
+    Lists, code_at, code_offset_at, codes_ok, extent_at, prologue_at, read_machine, room, word_ok,
 };
+use passed::{Cleared, Passed};
 use prologue::given::{FunctionRows, X64Machine};
 use prologue::{moved, prologue_end};
-use relocs::{number, relocation};
+use relocs::relocation;
 
 mod given;
+mod passed;
 
 impl Source<'_> {
     // How many numbers the record of a function has.
@@ -45,16 +47,6 @@ impl Source<'_> {
         match self {
             Source::Direct => lists::PROLOGUE_STRIDE,
             Source::Rows(_) => lists::FUNCTION_STRIDE,
-        }
-    }
-
-    // The distance in front of the first code or row.
-    fn start(&self) -> i64
-        ensures { result ≡ pos (pushed_by self.now) }
-    {
-        match self {
-            Source::Direct => 0,
-            Source::Rows(m) => m.machine.pushed as i64,
         }
     }
 }
@@ -115,6 +107,95 @@ impl Input<'_, '_, '_> {
 
 // ---- codes
 
+impl Records<'_, '_> {
+    // How many there are.
+    fn len(&self) -> usize
+        ensures { result ≡ records_in self.now }
+    {
+        match self {
+            Records::Codes(list) => list.len() / lists::CODE_STRIDE,
+            Records::ByRows(_, p) => p.rows.len(),
+        }
+    }
+
+    // The distance in front of the first.
+    fn start(&self) -> i64
+        ensures { result ≡ pos (pushed_by self.now) }
+    {
+        match self {
+            Records::Codes(_) => 0,
+            Records::ByRows(m, _) => m.machine.pushed as i64,
+        }
+    }
+}
+
+impl<'m, 'l> Span<'m, 'l> {
+    // Its codes.
+    fn codes(&self) -> UnwindCodes<'m, 'l>
+        ensures { codes_left result ≡ codes_by self.now }
+    {
+        UnwindCodes {
+            records: self.records,
+            next: 0,
+            sofar: self.records.start(),
+        }
+    }
+}
+
+impl UnwindCodes<'_, '_> {
+    // What the next record yields: a code, or none.
+    fn piece(&self) -> Option<UnwindCode>
+        requires { self.now.next < records_in self.now.records }
+        ensures { piece_of result ≡ next_piece self.now }
+    {
+        match self.records {
+            Records::Codes(list) => Some(UnwindCode {
+                offset: code_offset_at(list, self.next),
+                code: code_at(list, self.next),
+            }),
+            Records::ByRows(m, p) => p.piece_at(&m.registers(), self.next, self.sofar),
+        }
+    }
+
+    // The distance behind it.
+    fn moved(&self) -> i64
+        requires { self.now.next < records_in self.now.records }
+        ensures { (result ≡ next_moved self.now) × Short result }
+    {
+        match self.records {
+            Records::Codes(_) => self.sofar,
+            Records::ByRows(_, p) => moved(self.sofar, p.rows.rows, self.next),
+        }
+    }
+}
+
+impl Iterator for UnwindCodes<'_, '_> {
+    ghost use Rattle.std.specs.Iterator.{YieldsFirstBy, item_count};
+    ghost use Rattle.x64.specs.Answers.{pair_of};
+    ghost use Rattle.x64.specs.Given.{codes_left};
+
+    type Item = UnwindCode;
+
+    ghost next_gives = { YieldsFirstBy pair_of codes_left };
+
+    ghost remaining = { item_count codes_left };
+
+    // A row that ends no instruction yields no code: the iterator goes on to the next.
+    // Kept: a while. It is the next of an iterator, whose place among the records is its state; a range there in place of the number gives the same
+    // loop by while let, and the ghost field would speak of the range's two ends.
+    fn next(&mut self) -> Option<UnwindCode> {
+        while self.next < self.records.len() {
+            let piece = self.piece();
+            self.sofar = self.moved();
+            self.next += 1;
+            if let Some(code) = piece {
+                return Some(code);
+            }
+        }
+        None
+    }
+}
+
 // What some codes say: 34 to 39, how many slots of two bytes they have, and 41.
 #[derive(Clone, Copy)]
 struct Summary {
@@ -123,114 +204,18 @@ struct Summary {
     frames: Result<(), Question>,
 }
 
-impl<'m, 'l> Span<'m, 'l> {
-    // Its records.
-    fn pieces(&self) -> Pieces<'m, 'l>
-        ensures { pieces_left result ≡ pieces_by self.now }
+impl Summary {
+    // With a code behind them.
+    fn with(self, c: UnwindCode) -> Summary
+        requires { self.slots < 2 ^ 32 }
+        ensures { Summed self (pair_of c) result }
     {
-        Pieces {
-            span: *self,
-            next: self.first,
-            sofar: self.source.start(),
+        Summary {
+            codes: self.codes.and(c.code_no()),
+            slots: self.slots + c.nodes_size() / 2,
+            frames: self.frames.and(frame_no(c.code)),
         }
     }
-}
-
-impl Pieces<'_, '_> {
-    // What the next record yields: a code at its offset, or none.
-    fn piece(&self) -> Option<(u64, Seh)>
-        requires { self.now.next < self.now.span.past }
-        ensures { piece_of result ≡ next_piece self.now }
-    {
-        let span = self.span;
-        match span.source {
-            Source::Direct => Some((
-                code_offset_at(span.list, self.next),
-                code_at(span.list, self.next),
-            )),
-            Source::Rows(machine) => {
-                let rows = FunctionRows {
-                    list: span.list,
-                    at: span.first,
-                    end: span.past,
-                };
-                rows.piece_at(&machine.registers(), self.next, span.below, self.sofar)
-            }
-        }
-    }
-
-    // The distance behind it.
-    fn moved(&self) -> i64
-        requires { self.now.next < self.now.span.past }
-        ensures { (result ≡ next_moved self.now) × Short result }
-    {
-        match self.span.source {
-            Source::Direct => self.sofar,
-            Source::Rows(_) => moved(self.sofar, self.span.list, self.next),
-        }
-    }
-}
-
-impl Iterator for Pieces<'_, '_> {
-    ghost use Rattle.std.specs.Iterator.{YieldsFirstBy, item_count};
-    ghost use Rattle.prologue.specs.Pieces.{piece_of};
-    ghost use Rattle.x64.specs.Given.{pieces_left};
-
-    type Item = Option<(u64, Seh)>;
-
-    ghost next_gives = { YieldsFirstBy piece_of pieces_left };
-
-    ghost remaining = { item_count pieces_left };
-
-    fn next(&mut self) -> Option<Option<(u64, Seh)>> {
-        if self.next == self.span.past {
-            return None;
-        }
-        let piece = self.piece();
-        self.sofar = self.moved();
-        self.next += 1;
-        Some(piece)
-    }
-}
-
-// ---- what a loop takes from a piece
-
-// The summary of the codes in front and of a piece behind them.
-fn with_piece(t: Summary, c: Option<(u64, Seh)>) -> Summary
-    requires { t.slots < 2 ^ 32 }
-    ensures { Summed t (piece_of c) result }
-{
-    let Some((at, code)) = c else {
-        return t;
-    };
-    Summary {
-        codes: t.codes.and(code_no(at, code)),
-        slots: t.slots + nodes_size(at, code) / 2,
-        frames: t.frames.and(frame_no(code)),
-    }
-}
-
-fn piece_frame(b: u8, c: Option<(u64, Seh)>) -> u8
-    requires { (first_no code_no (piece_of c) ≡ none) × (first_no frame_ask (piece_of c) ≡ none) }
-    ensures { result ≡ frame_byte b (piece_of c) }
-{
-    let Some((_, code)) = c else {
-        return b;
-    };
-    frame_or(b, code)
-}
-
-fn piece_nodes(c: Option<(u64, Seh)>) -> Code
-    requires { first_no code_no (piece_of c) ≡ none }
-    ensures { Holds result (reversed (piece_of c)) }
-{
-    let Some((at, code)) = c else {
-        return Code {
-            bytes: [0; 6],
-            count: 0,
-        };
-    };
-    nodes(at, code)
 }
 
 // ---- the codes of a function
@@ -245,37 +230,10 @@ impl Span<'_, '_> {
             slots: 0,
             frames: Ok(()),
         };
-        for c in self.pieces() {
-            t = with_piece(t, c);
+        for c in self.codes() {
+            t = t.with(c);
         }
         t
-    }
-
-    // The header's byte of the frame register.
-    fn frame_byte(&self) -> u8
-        requires { (first_no code_no (codes_by self.now) ≡ none) × (first_no frame_ask (codes_by self.now) ≡ none) }
-        ensures { result ≡ frame_byte 0 (codes_by self.now) }
-    {
-        let mut b = 0;
-        for c in self.pieces() {
-            b = piece_frame(b, c);
-        }
-        b
-    }
-
-    // Kept: the list and the place stand apart here and in `describe`, as in leb.
-    // The codes in reverse: the first stands last, `held` slots up from `at`, and each other one before it.
-    fn put_codes(&self, out: &mut [u8], at: usize, held: usize) -> usize
-        requires { (first_no code_no (codes_by self.now) ≡ none) × (held ≡ slots (codes_by self.now)) × (at + 2 * held ≤ length out.old) }
-        ensures { Wrote out.old out.new at result (reversed (codes_by self.now)) }
-    {
-        let mut to = at + 2 * held;
-        for c in self.pieces() {
-            let n = piece_nodes(c);
-            to -= n.count;
-            put_nodes(out, to, n);
-        }
-        at + 2 * held
     }
 
     // The questions of its codes: 34 to 39 of each, 35 of the prologue's end, 40, and 41 of each.
@@ -296,26 +254,51 @@ impl Span<'_, '_> {
 
 // ---- UNWIND_INFO
 
-impl Span<'_, '_> {
+impl Passed<'_, '_> {
+    // The header's byte of the frame register.
+    fn frame_byte(&self) -> u8
+        ensures { result ≡ frame_byte 0 (codes_by self.now.span) }
+    {
+        let mut b = 0;
+        for c in self.span.codes() {
+            b = frame_or(b, c.code);
+        }
+        b
+    }
+
+    // Kept: the list and the place stand apart here and in `describe`, as in leb.
+    // The codes in reverse: the first stands last, `held` slots up from `at`, and each other one before it.
+    fn put_codes(&self, out: &mut [u8], at: usize, held: usize) -> usize
+        requires { (held ≡ slots (codes_by self.now.span)) × (at + 2 * held ≤ length out.old) }
+        ensures { Wrote out.old out.new at result (reversed (codes_by self.now.span)) }
+    {
+        let mut to = at + 2 * held;
+        for c in self.span.codes() {
+            let n = c.nodes();
+            to -= n.count;
+            put_nodes(out, to, n);
+        }
+        at + 2 * held
+    }
+
     // How many bytes the record of its codes has.
     fn info_size(&self) -> usize
-        requires { prologue_no self.now.end (codes_by self.now) ≡ none }
-        ensures { result ≡ length (info_by self.now) }
+        ensures { result ≡ length (info_by self.now.span) }
     {
-        let t = self.codes_summary();
+        let t = self.span.codes_summary();
         let held = t.slots;
         4 + 2 * held + 2 * (held % 2)
     }
 
     // The record of its codes.
     fn describe(&self, out: &mut [u8], at: usize) -> usize
-        requires { (prologue_no self.now.end (codes_by self.now) ≡ none) × (at + length (info_by self.now) ≤ length out.old) }
-        ensures { Wrote out.old out.new at result (info_by self.now) }
+        requires { at + length (info_by self.now.span) ≤ length out.old }
+        ensures { Wrote out.old out.new at result (info_by self.now.span) }
     {
-        let t = self.codes_summary();
+        let t = self.span.codes_summary();
         let held = t.slots;
         let frame = self.frame_byte();
-        let a = head(out, at, self.end as u8, held as u8, frame);
+        let a = head(out, at, self.span.end as u8, held as u8, frame);
         let b = self.put_codes(out, a, held);
         fill(out, b, 2 * (held % 2))
     }
@@ -327,42 +310,34 @@ impl<'m, 'l> Input<'m, '_, 'l> {
     // Function k of direct codes.
     fn direct_span(&self, k: usize) -> Span<'m, 'l>
         requires { (k < self.now.count) × (self.now.source ≡ Direct) }
-        ensures { DirectSpan self.now.functions.now self.now.list.now k result }
+        ensures { FoundAt Direct self.now.functions.now self.now.list.now k result }
     {
         let p = prologue_at(self.functions, k);
+        let from = lists::CODE_STRIDE * p.codes_at;
         Span {
-            source: self.source,
-            list: self.list,
             symbol: p.symbol,
             length: p.length,
             end: p.end,
-            first: p.codes_at,
-            past: p.codes_at + p.codes,
-            below: 0,
+            records: Records::Codes(&self.list[from..from + lists::CODE_STRIDE * p.codes]),
         }
     }
 
     // Function k by its rows, for that machine.
     fn rows_span(&self, machine: X64Machine<'m>, k: usize) -> Result<Span<'m, 'l>, Question>
         requires { (k < self.now.count) × (self.now.source ≡ Rows machine) }
-        ensures { RowsFound machine.entry self.now.functions.now self.now.list.now k result }
+        ensures { Found (Rows machine.entry) self.now.functions.now self.now.list.now k result }
     {
         let e = extent_at(self.functions, k);
-        let rows = FunctionRows {
-            list: self.list,
-            at: e.rows_at,
-            end: e.rows_at + e.rows,
+        let from = rows::ROW_STRIDE * e.rows_at;
+        let all = FunctionRows {
+            rows: &self.list[from..from + rows::ROW_STRIDE * e.rows],
         };
-        let r = rows.prologue(&machine)?;
+        let shape = all.prologue(&machine)?;
         Ok(Span {
-            source: self.source,
-            list: self.list,
             symbol: e.symbol,
             length: e.length,
-            end: prologue_end(self.list, e.rows_at, r.end),
-            first: e.rows_at,
-            past: r.end,
-            below: r.below,
+            end: prologue_end(shape.rows.rows),
+            records: Records::ByRows(machine, shape),
         })
     }
 
@@ -427,6 +402,8 @@ impl Input<'_, '_, '_> {
     }
 
     // The passes over the functions.
+    // Kept: three loops. One over a closure says in its contract what each call asks (k below the count) and what its answers are, by a definition of
+    // the pass; each loop here is three lines.
     fn asks(&self) -> Result<(), Refusal>
         ensures { numbered_at result ≡ question_of (asks_in self.now) }
     {
@@ -445,41 +422,51 @@ impl Input<'_, '_, '_> {
 
 // ---- the results
 
-impl Input<'_, '_, '_> {
+impl<'m, 'l> Cleared<'m, '_, 'l> {
+    // Function k.
+    fn passed(&self, k: usize) -> Passed<'m, 'l>
+        requires { k < self.now.input.count }
+        ensures { info_by result.span ≡ info_in self.now.input k }
+    {
+        Passed {
+            span: self.input.span_at(k).unwrap(),
+        }
+    }
+}
+
+impl Cleared<'_, '_, '_> {
     // How many bytes the records of the functions have.
     fn total(&self) -> usize
-        requires { AllAgreed self.now }
-        ensures { result ≡ length (infos_in self.now) }
+        ensures { result ≡ length (infos_in self.now.input) }
     {
         let mut sum = 0;
-        for k in 0..self.count {
-            sum += self.span_at(k).unwrap().info_size();
+        for k in 0..self.input.count {
+            sum += self.passed(k).info_size();
         }
         sum
     }
 
     // The records of the functions, and where each stands.
     fn put_infos(&self, markers: &mut [u64], info: &mut [u8]) -> usize
-        requires { AllAgreed self.now × (self.now.count ≤ length markers.old) × (length (infos_in self.now) ≤ length info.old) }
-        ensures { (markers.new ≡ put markers.old 0 (markers_from 0 (functions_of self.now))) × (info.new ≡ put info.old 0 (infos_in self.now)) }
+        requires { (self.now.input.count ≤ length markers.old) × (length (infos_in self.now.input) ≤ length info.old) }
+        ensures { (markers.new ≡ put markers.old 0 (markers_from 0 (functions_of self.now.input))) × (info.new ≡ put info.old 0 (infos_in self.now.input)) }
     {
         let mut at = 0;
-        for k in 0..self.count {
-            let p = self.span_at(k).unwrap();
-            number(markers, k, at as u64);
-            at = p.describe(info, at);
+        for k in 0..self.input.count {
+            markers[k] = at as u64;
+            at = self.passed(k).describe(info, at);
         }
         at
     }
 
     // All results, where they have room.
     fn put_all(&self, sites: usize, to: &mut Output) -> Result<Option<Counts>, Refusal>
-        requires { AllAgreed self.now × (sites ≡ length (infos_in self.now)) × (self.now.count ≤ length to.old.places.now) × (runtime_bytes * self.now.count ≤ length to.old.bytes.now) × (runtime_numbers * self.now.count ≤ length to.old.relocations.now) × (sites ≤ length to.old.sites.now) }
-        ensures { WritesTo (accepted (table_in self.now)) (numbered_at result) to.old to.new }
+        requires { (sites ≡ length (infos_in self.now.input)) × (self.now.input.count ≤ length to.old.places.now) × (runtime_bytes * self.now.input.count ≤ length to.old.bytes.now) × (runtime_numbers * self.now.input.count ≤ length to.old.relocations.now) × (sites ≤ length to.old.sites.now) }
+        ensures { WritesTo (accepted (table_in self.now.input)) (numbered_at result) to.old to.new }
     {
-        let n = self.count;
+        let n = self.input.count;
         fill(to.bytes, 0, RUNTIME_BYTES * n);
-        self.put_runtime(to.relocations);
+        self.input.put_runtime(to.relocations);
         self.put_infos(to.places, to.sites);
         Ok(Some(Counts {
             places: n as u64,
@@ -491,10 +478,9 @@ impl Input<'_, '_, '_> {
 
     // The results, where they have room.
     fn write(&self, to: &mut Output) -> Result<Option<Counts>, Refusal>
-        requires { AllAgreed self.now }
-        ensures { WritesTo (fitting (room_of to.old) (table_in self.now)) (numbered_at result) to.old to.new }
+        ensures { WritesTo (fitting (room_of to.old) (table_in self.now.input)) (numbered_at result) to.old to.new }
     {
-        let n = self.count;
+        let n = self.input.count;
         let sites = self.total();
         let needed = Counts {
             places: n as u64,
@@ -505,20 +491,24 @@ impl Input<'_, '_, '_> {
         room(needed, to.lent())?;
         self.put_all(sites, to)
     }
+}
 
+impl Input<'_, '_, '_> {
     // The questions of the functions, and the results.
     fn answer(&self, to: &mut Output) -> Result<Option<Counts>, Refusal>
         ensures { WritesTo (unless (asks_in self.now) (fitting (room_of to.old) (table_in self.now))) (numbered_at result) to.old to.new }
     {
         self.asks()?;
-        self.write(to)
+        let cleared = Cleared { input: *self };
+        cleared.write(to)
     }
 }
 
 // ---- the entries
 
 // x64 unwind data from direct codes.
-// Kept: the C interface lends the lists one by one.
+// Kept: the lists one by one. `Writes` names each list before and after; `lists::Lists` has no codes, and in `lists::output::Output` each clause would name a
+// field of another value, and one more would say that the caller's own lists are lent in it still (D122).
 pub fn seh(
     functions: &[u64],
     codes: &[u64],
@@ -534,10 +524,7 @@ pub fn seh(
         return Ok(None);
     }
     if !codes_ok(functions, codes) {
-        return Err(Refusal {
-            question: Question::Lists,
-            position: 0,
-        });
+        return Err(Question::Lists.into());
     }
     let x = Input {
         source: Source::Direct,
@@ -555,7 +542,8 @@ pub fn seh(
 }
 
 // x64 unwind data from rows.
-// Kept: the C interface lends the lists one by one.
+// Kept: the lists one by one. `Writes` names each list before and after; in `Lists` and `Output` each clause would name a field of another value, and
+// one more would say that the caller's own lists are lent in it still (D122).
 pub fn windows(
     machine: &[u64],
     functions: &[u64],
@@ -569,18 +557,9 @@ pub fn windows(
 ) -> Result<Option<Counts>, Refusal>
     ensures { Writes (unless (windows_asks (given_of machine.now functions.now rows.now landings.now pairs.now)) (windows_answer (machine_of machine.now) (given_functions (given_of machine.now functions.now rows.now landings.now pairs.now)) (room_in markers.old bytes.old relocations.old info.old))) (numbered_at result) markers.old markers.new bytes.old bytes.new relocations.old relocations.new info.old info.new }
 {
-    if !machine_ok(machine) {
-        return Err(Refusal {
-            question: Question::Interface,
-            position: 0,
-        });
-    }
-    let m = machine_of(machine);
+    let m = read_machine(machine)?;
     if !word_ok(m) {
-        return Err(Refusal {
-            question: Question::X64Word,
-            position: 0,
-        });
+        return Err(Question::X64Word.into());
     }
     let given = Lists {
         functions,
@@ -589,10 +568,7 @@ pub fn windows(
         pairs,
     };
     if !given.ok() {
-        return Err(Refusal {
-            question: Question::Lists,
-            position: 0,
-        });
+        return Err(Question::Lists.into());
     }
     let known = X64Machine { machine: &m };
     let x = Input {

@@ -20,7 +20,9 @@ fn marker_at(markers: &[u64], k: usize) -> u64
 
 // `seh`, and then the reader on the info that it wrote, at the marker of function k: where the list was accepted and at most one code of
 // function k sets the frame register, the reading and the codes are as they were given.
-// Kept: the lists stand one by one, as `x64::seh` and the reader take them from C.
+// Kept: the lists one by one, as in the two calls of this body, `x64::seh` and the reader, which C reaches. `Writes` and `ReadBack` name each list,
+// five of them before and after the call: lent in one struct they would be 24 paths of fields in these two clauses, with a third that says that the
+// struct lends the same lists still, and the body would take it apart for both calls.
 pub fn seh_and_read(
     functions: &[u64],
     codes: &[u64],

@@ -1,13 +1,12 @@
 -- What the export answers of a record: each refusal, and the codes that are stored.
 use mathlib.Core.Path.{◌≡◌, refl, ◌∙◌}
-use Prim.Native.Nat.{ℕ, ◌-◌, ◌*◌, ◌/◌, ◌≤◌, ◌<◌}
+use Prim.Native.Nat.{ℕ, ◌*◌, ◌/◌, ◌≤◌, ◌<◌}
 use native.Mathlib.Omega.{arith}
 use mathlib.Core.Bool.{Bool, true, false}
 use mir.Val.{bool_byte}
 use mathlib.Core.Option.{Option, none, some}
 use mathlib.Core.List.{List, [], ◌∷◌}
-use lib.ListN.{length, get_or, take, drop}
-use lib.Seq.{drop-drop}
+use lib.ListN.{length, get_or, drop}
 use Rattle.format.specs.Prelude.{pick, Result, good, bad, onward, or_else}
 use Rattle.format.specs.Answers.{bit}
 use Rattle.format.specs.declared.Seh.{Seh}
@@ -51,25 +50,18 @@ unfolding counted_of
 some_read none e = let z : ◌≡◌ {A = ℕ} 0 1 = cc in absurd (omega arith)
 some_read (some cs) e = record { held = record { codes = cs; are = refl; many = (both_are e).0 }; frames = (both_are e).1 }
 
-module _ (s : List ℕ) (p : ℕ) {end frame at q : ℕ} (h : HeaderThere (drop p s) (length s) p end frame at q) where
-  -- the slots that the code reads
-  slots_are : take (q - at) (drop at s) ≡ slot_bytes_in (drop p s)
-  unfolding slot_bytes_in
-  slots_are =
-      let e : q - at ≡ 2 * get_or (drop p s) 2 0 = omega (arith, h.past) in
-      rw (drop-drop 4 p s, e, h.starts)
-
-  there : read_info (drop p s) ≡ onward (or_else (read_codes frame (take (q - at) (drop at s))) 77) (λ cs. good (info_with (drop p s) cs))
+module _ (s : List ℕ) (p : ℕ) {end frame : ℕ} {slots : List ℕ} (h : HeaderThere (drop p s) end frame slots) where
+  there : read_info (drop p s) ≡ onward (or_else (read_codes frame slots) 77) (λ cs. good (info_with (drop p s) cs))
   unfolding read_info
   there =
-      rw (slots_are, h.frames)
+      rw (h.holds, h.frames)
       (pick_yes (header_ok (drop p s)) (onward (or_else (read_codes (get_or (drop p s) 3 0) (slot_bytes_in (drop p s))) 77) (λ cs. good (info_with (drop p s) cs))) (bad 76) h.ok)
 
-  pub no_codes : (room : ℕ) → read_codes frame (take (q - at) (drop at s)) ≡ none → read_x64 s p room ≡ bad 77
+  pub no_codes : (room : ℕ) → read_codes frame slots ≡ none → read_x64 s p room ≡ bad 77
   unfolding read_x64 onward or_else
   no_codes room e = rw (there, e)
 
-  module _ (room : ℕ) {n : ℕ} (c : Held (read_codes frame (take (q - at) (drop at s))) n) where
+  module _ (room : ℕ) {n : ℕ} (c : Held (read_codes frame slots) n) where
     pub no_space : room / 5 < n → read_x64 s p room ≡ bad 54
     unfolding read_x64 onward or_else info_with
     no_space l = rw (there, c.are) (if-gt (5 * length c.codes) room _ _ (omega (arith, c.many)))
@@ -78,9 +70,9 @@ module _ (s : List ℕ) (p : ℕ) {end frame at q : ℕ} (h : HeaderThere (drop 
     unfolding read_x64 onward or_else info_with
     space l = rw (there, c.are) (if-le (5 * length c.codes) room _ _ (omega (arith, c.many)))
 
-  pub reads : {n : ℕ} {framed : Bool} {ns new : List ℕ} (old : List ℕ) (c : Read (read_codes frame (take (q - at) (drop at s))) n framed) → n ≤ length old / 5
+  pub reads : {n : ℕ} {framed : Bool} {ns new : List ℕ} (old : List ℕ) (c : Read (read_codes frame slots) n framed) → n ≤ length old / 5
       → ns ≡ 0 ∷ end ∷ bit framed ∷ frame_register frame ∷ frame_offset frame ∷ n ∷ []
-      → new ≡ stored_of (read_codes frame (take (q - at) (drop at s))) old → Answers (read_x64 s p (length old)) ns old new
+      → new ≡ stored_of (read_codes frame slots) old → Answers (read_x64 s p (length old)) ns old new
   unfolding info_numbers codes_stored info_with stored_of
   reads old c l e t =
       let r : read_x64 s p (length old) ≡ good (info_with (drop p s) c.held.codes) = space (length old) c.held l in

@@ -5,7 +5,7 @@ use Rattle.std.proofs.Math.Option.{Option, none, some}
 use Rattle.format.specs.Put.{put}
 use Rattle.format.specs.declared.Seh.{Seh}
 use Rattle.operations.specs.declared.fields.Position.{Position}
-use Rattle.format.specs.X64Reader.{read_code, code_numbers, has_frame, header_ok}
+use Rattle.format.specs.X64Reader.{read_code, code_numbers, has_frame, header_ok, slot_bytes_in}
 use Rattle.x64_reader.specs.declared.Code.{Code}
 use Rattle.x64_reader.specs.declared.Slots.{Slots}
 use Rattle.x64_reader.specs.declared.Header.{Header}
@@ -55,17 +55,15 @@ stored_of (some cs) old = put old 0 (code_numbers cs)
 
 -- ---- a record
 
--- a header at p, its two bytes, and its slots from `at` to q
-pub record HeaderThere (bs : List ℕ) (size p end frame at q : ℕ) : Type 0 where
+-- a header, its two bytes, and its slots
+pub record HeaderThere (bs : List ℕ) (end frame : ℕ) (slots : List ℕ) : Type 0 where
   pub ok : T (header_ok bs)
   pub ends : end ≡ get_or bs 1 0
   pub frames : frame ≡ get_or bs 3 0
-  pub starts : at ≡ p + 4
-  pub past : q ≡ at + 2 * get_or bs 2 0
-  pub inside : q ≤ size
+  pub holds : slots ≡ slot_bytes_in bs
 
 abbrev pub HeaderSays : List ℕ → ℕ → code.Option Header → Type 0
-HeaderSays s p (Some h) = HeaderThere (drop p s) (length s) p h.end h.frame h.at h.past
+HeaderSays s p (Some h) = HeaderThere (drop p s) h.end h.frame h.slots.now
 HeaderSays s p None = header_ok (drop p s) ≡ false
 
 -- the numbers of a reading, in the order of include/dekvoz.h

@@ -17,6 +17,9 @@ use operations::fields::{Position, read_le};
 
 // ---- one code
 
+// Kept: an operation is its number here, and no enum. `code_at` has it out of four bits of a record, and two functions ask which one it is: an enum
+// would add a third match of nine arms, which makes it, with a definition of each one's number for the contracts of the other two.
+
 fn large_bytes(info: u64) -> Option<usize>
     ensures { result ≡ option_of (operand_bytes 1 info) }
 {
@@ -94,7 +97,7 @@ fn code_at(s: &[u8], at: Position, frame: u8) -> Option<Code>
     };
     let (v, past) = read_le(s, behind, n)?;
     Some(Code {
-        offset: leb::wide(s[from]),
+        offset: u64::from(s[from]),
         says: meaning(frame, op, info, v),
         past,
     })
@@ -148,14 +151,10 @@ fn slots_in(bytes: &[u8], frame: u8) -> Slots
 fn or_frame(framed: bool, code: Seh) -> bool
     ensures { result ≡ (is_frame code || framed) }
 {
-    match code {
-        Seh::Push(_) => framed,
-        Seh::Alloc(_) => framed,
-        Seh::Frame(_, _) => true,
-        Seh::Save(_, _, _) => framed,
-    }
+    framed || matches!(code, Seh::Frame(_, _))
 }
 
+// Kept: n beside framed: one pass gives both and stops at a code that cannot be read; `count` and `any` would be two passes.
 // How many codes there are, and whether one sets the frame register, where each can be read.
 fn count(s: &[u8], frame: u8) -> Option<(usize, bool)>
     ensures { result ≡ counted_of (read_codes frame s.now) }
@@ -169,32 +168,37 @@ fn count(s: &[u8], frame: u8) -> Option<(usize, bool)>
     Some((n, framed))
 }
 
-// A code's numbers, as `seh` takes them.
-fn numbers_of(offset: u64, code: Seh) -> [u64; codes::STRIDE]
-    ensures { result ≡ offset ∷ fields_of code }
-{
-    match code {
-        Seh::Push(reg) => [offset, codes::PUSH, reg, 0, 0],
-        Seh::Alloc(z) => [offset, codes::ALLOC, 0, 0, z.cast_unsigned()],
-        Seh::Frame(reg, z) => [offset, codes::FRAME, reg, 0, z.cast_unsigned()],
-        Seh::Save(reg, vector, z) => [
-            offset,
-            codes::SAVE,
-            reg,
-            u64::from(vector),
-            z.cast_unsigned(),
-        ],
+impl Code {
+    // Its numbers, as `seh` takes them.
+    fn numbers(self) -> [u64; codes::STRIDE]
+        ensures { result ≡ self.offset ∷ fields_of self.says }
+    {
+        let offset = self.offset;
+        match self.says {
+            Seh::Push(reg) => [offset, codes::PUSH, reg, 0, 0],
+            Seh::Alloc(z) => [offset, codes::ALLOC, 0, 0, z.cast_unsigned()],
+            Seh::Frame(reg, z) => [offset, codes::FRAME, reg, 0, z.cast_unsigned()],
+            Seh::Save(reg, vector, z) => [
+                offset,
+                codes::SAVE,
+                reg,
+                u64::from(vector),
+                z.cast_unsigned(),
+            ],
+        }
+    }
+
+    fn put(self, codes: &mut [u64], at: usize)
+        requires { at + code_stride ≤ length codes.old }
+        ensures { codes.new ≡ put codes.old at (self.offset ∷ fields_of self.says) }
+    {
+        let n = self.numbers();
+        codes[at..at + codes::STRIDE].copy_from_slice(&n);
     }
 }
 
-fn put_code(codes: &mut [u64], at: usize, offset: u64, code: Seh)
-    requires { at + code_stride ≤ length codes.old }
-    ensures { codes.new ≡ put codes.old at (offset ∷ fields_of code) }
-{
-    let n = numbers_of(offset, code);
-    codes[at..at + codes::STRIDE].copy_from_slice(&n);
-}
-
+// Kept: `left` by hand. The codes go in from the last to the first; by `chunks_exact_mut(..).rev()` with `zip` the clause would say what the reversed
+// parts leave in the list.
 // The n codes, five numbers each, from the last to the first, since they stand in reverse.
 fn store(s: &[u8], frame: u8, n: usize, codes: &mut [u64])
     requires { (code_stride * n ≤ length codes.old) × Held (read_codes frame s.now) n }
@@ -206,19 +210,18 @@ fn store(s: &[u8], frame: u8, n: usize, codes: &mut [u64])
             return;
         };
         left -= 1;
-        put_code(codes, codes::STRIDE * left, code.offset, code.says);
+        code.put(codes, codes::STRIDE * left);
     }
 }
 
 // ---- a record
 
-// The prologue's end and the frame byte of a header, and where its slots start and end.
+// The prologue's end and the frame byte of a header, and its slots.
 #[derive(Clone, Copy)]
-pub struct Header {
+pub struct Header<'a> {
     pub end: u64,
     pub frame: u8,
-    pub at: usize,
-    pub past: usize,
+    pub slots: &'a [u8],
 }
 
 fn header_at(info: &[u8], place: u64) -> Option<Header>
@@ -229,22 +232,21 @@ fn header_at(info: &[u8], place: u64) -> Option<Header>
     if size < 4 || size - 4 < p || info[p] != 1 {
         return None;
     }
-    let slots = leb::wide(info[p + 2]) as usize;
+    let slots = usize::from(info[p + 2]);
     if size - 4 - p < 2 * slots {
         return None;
     }
     Some(Header {
-        end: leb::wide(info[p + 1]),
+        end: u64::from(info[p + 1]),
         frame: info[p + 3],
-        at: p + 4,
-        past: p + 4 + 2 * slots,
+        slots: &info[p + 4..p + 4 + 2 * slots],
     })
 }
 
 // What unwind_read_x64 answers.
 // Kept: a number and fields that are 0 where it refuses, since C reads it.
 #[repr(C)]
-#[derive(Clone, Copy)]
+#[derive(Clone, Copy, Default)]
 pub struct X64Reading {
     pub number: u64,
     pub end: u64,
@@ -259,16 +261,12 @@ fn refused(question: Question) -> X64Reading
 {
     X64Reading {
         number: question.number(),
-        end: 0,
-        frame: 0,
-        frame_register: 0,
-        frame_offset: 0,
-        codes: 0,
+        ..X64Reading::default()
     }
 }
 
 fn read_as(header: Header, framed: bool, n: usize) -> X64Reading
-    ensures { read_numbers result ≡ 0 ∷ header.end ∷ bit framed ∷ frame_register header.frame ∷ frame_offset header.frame ∷ n ∷ [] }
+    ensures { read_numbers result ≡ 0 ∷ header.entry.end ∷ bit framed ∷ frame_register header.entry.frame ∷ frame_offset header.entry.frame ∷ n ∷ [] }
 {
     X64Reading {
         number: 0,
@@ -291,13 +289,12 @@ pub extern "C" fn unwind_read_x64(info: &[u8], place: u64, codes: &mut [u64]) ->
     let Some(header) = header_at(info, place) else {
         return refused(Question::X64Header);
     };
-    let slots = &info[header.at..header.past];
-    let Some((n, framed)) = count(slots, header.frame) else {
+    let Some((n, framed)) = count(header.slots, header.frame) else {
         return refused(Question::X64Codes);
     };
     if codes.len() / codes::STRIDE < n {
         return refused(Question::OtherRoom);
     }
-    store(slots, header.frame, n, codes);
+    store(header.slots, header.frame, n, codes);
     read_as(header, framed, n)
 }

@@ -5,4 +5,4 @@ use Rattle.arm64_function.proofs.prologue_at.Goals as goal
 
 pub returns : goal.returns
 unfolding prologue_at
-returns c = refl
+returns c = rw (c.number.ensures, c.number-2.ensures) refl

@@ -5,4 +5,4 @@ use Rattle.arm64_packing.proofs.Tallies.{Tallying}
 use Rattle.arm64_packing.proofs.candidate.Given as goal
 
 abbrev pub invariant-loop-s : goal.invariant-loop-s
-invariant-loop-s l = Tallying (simplify no_pair (saves l.run.list.now l.run.run)) l.size l.run.run.count (steps_left l.s-iterator) l.p
+invariant-loop-s l = Tallying (simplify no_pair (saves l.run.list.now l.run.run)) l.size l.run.run.count (steps_left l.s-iterator) l.counts

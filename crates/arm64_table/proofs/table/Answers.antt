@@ -8,7 +8,7 @@ pub returns-then-n-eq0 : goal.returns-then-n-eq0
 returns-then-n-eq0 c = let a = c.args in table_empty a.functions.now a.epilogues.now a.codes.now (room_in a.markers.now a.bytes.now a.relocations.now a.info.now) c.if-n-eq0.true
 
 pub returns-then-not-ok : goal.returns-then-not-ok
-returns-then-not-ok c = let a = c.args in table_refused a.functions.now a.epilogues.now a.codes.now (room_in a.markers.now a.bytes.now a.relocations.now a.info.now) c.if-n-eq0.false (sym c.ok.ensures ∙ c.if-not-ok.true)
+returns-then-not-ok c = rw c.into.ensures (let a = c.args in table_refused a.functions.now a.epilogues.now a.codes.now (room_in a.markers.now a.bytes.now a.relocations.now a.info.now) c.if-n-eq0.false (sym c.ok.ensures ∙ c.if-not-ok.true))
 
 pub invariant_of-answer : goal.invariant_of-answer
 invariant_of-answer c = let a = c.args in record { listed = all_listed a.functions.now a.epilogues.now a.codes.now (sym c.ok.ensures ∙ c.if-not-ok.false) }

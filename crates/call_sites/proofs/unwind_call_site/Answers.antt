@@ -1,9 +1,8 @@
 -- `call_sites::unwind_call_site` meets its contract.
-use Rattle.call_sites.proofs.Tables.{no_table, table_answers}
+use mathlib.Core.Path.{◌∙◌}
+use Rattle.format.specs.CallSiteReader.{site_at, sites_short}
+use Rattle.call_sites.proofs.Tables.{in_numbers}
 use Rattle.call_sites.proofs.unwind_call_site.Goals as goal
 
-pub returns-in_default : goal.returns-in_default
-returns-in_default c = let a = c.args in no_table a.sites.now a.place a.offset _ c.in_default.ensures c.answered.ensures
-
 pub returns : goal.returns
-returns c = let a = c.args in table_answers a.sites.now a.place a.offset c.in-Some.ensures c.search-read.ensures c.table_short.ensures c.answered-2.ensures
+returns c = let a = c.args in rw c.look_up.ensures at c.from.ensures ∙ in_numbers (site_at a.sites.now a.place a.offset) (sites_short a.sites.now a.place)

@@ -4,13 +4,13 @@ use mathlib.Core.Path.{◌≡◌, ap, ◌∙◌}
 use native.Mathlib.Omega.{arith}
 use Rattle.format.specs.X64.{size64, frame_or}
 use Rattle.rows.proofs.Signs.{passed}
-use Rattle.codes.proofs.Questions.{frame_said}
+use Rattle.codes.proofs.Questions.{no_frame, frame_said}
 use Rattle.codes.proofs.frame_or.Goals as goal
 use Rattle.codes.proofs.frame_or.Goals.{After-size}
 
 -- the size of a frame code's offset, and the bounds of its numbers
 sized : (c : After-size) → c.size.result ≡ size64 c.in-Frame.z
-sized c = c.size.ensures ∙ ap size64 (passed c.in-Frame.z (omega (arith, c.in-Frame.known_told-1-own.given)))
+sized c = c.size.ensures ∙ ap size64 (passed c.in-Frame.z (omega arith))
 
 held : (c : After-size) → (c.in-Frame.reg ≤ 15) × (c.size.result ≤ 240)
 held c = rw (sized c) (frame_said c.in-Frame.is c.requires)
@@ -21,18 +21,9 @@ overflow_add-result c = omega (arith, held c)
 pub overflow_cast-result : goal.overflow_cast-result
 overflow_cast-result c = omega (arith, held c)
 
-pub returns-in-Push : goal.returns-in-Push
-unfolding frame_or
-returns-in-Push c = rw c.in-Push.is
+pub returns-in_default : goal.returns-in_default
+returns-in_default c = (no_frame c.args.code c.in_default.not-Frame).1 c.args.b
 
-pub returns-in-Alloc : goal.returns-in-Alloc
+pub returns : goal.returns
 unfolding frame_or
-returns-in-Alloc c = rw c.in-Alloc.is
-
-pub returns-in-Frame : goal.returns-in-Frame
-unfolding frame_or
-returns-in-Frame c = rw c.in-Frame.is (rw (sized c))
-
-pub returns-in-Save : goal.returns-in-Save
-unfolding frame_or
-returns-in-Save c = rw c.in-Save.is
+returns c = rw c.in-Frame.is (rw (sized c))

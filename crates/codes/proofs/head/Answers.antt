@@ -1,6 +1,7 @@
 -- `codes::head` meets its contract.
-use Rattle.format.proofs.PutLaws.{◌then◌}
+use native.Mathlib.Omega.{arith}
+use Rattle.format.proofs.Copied.{copied}
 use Rattle.codes.proofs.head.Goals as goal
 
 pub returns : goal.returns
-returns c = c.byte-a.ensures then c.byte-b.ensures then c.byte-c.ensures then c.byte.ensures
+returns c = copied c.copy_from_slice.ensures.after (omega arith) (omega arith) c.requires

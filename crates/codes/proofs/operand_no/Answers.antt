@@ -11,7 +11,7 @@ returns-in-Push c = rw c.in-Push.is
 
 pub returns-in-Alloc : goal.returns-in-Alloc
 unfolding operand_no
-returns-in-Alloc c = rw c.in-Alloc.is (rw (passed c.in-Alloc.z (omega (arith, c.in-Alloc.known_told-1-own.given))) at c.alloc_no.ensures)
+returns-in-Alloc c = rw c.in-Alloc.is (rw (passed c.in-Alloc.z (omega arith)) at c.alloc_no.ensures)
 
 pub returns-in-Frame : goal.returns-in-Frame
 unfolding yes_or_no operand_no
@@ -19,4 +19,4 @@ returns-in-Frame c = rw c.in-Frame.is
 
 pub returns-in-Save : goal.returns-in-Save
 unfolding operand_no
-returns-in-Save c = rw c.in-Save.is (rw (passed c.in-Save.z (omega (arith, c.in-Save.known_told-in-Save-1-own.given))) at c.save_no.ensures)
+returns-in-Save c = rw c.in-Save.is (rw (passed c.in-Save.z (omega arith)) at c.save_no.ensures)

@@ -14,11 +14,11 @@ use Rattle.dwarf.proofs.dwarf_asks.Goals as goal
 
 pub returns-then-not-size_ok : goal.returns-then-not-size_ok
 unfolding dwarf_asks meant ask and_then question_of pick
-returns-then-not-size_ok c = simp (refused c.size_ok.ensures (ap not c.if-not-size_ok.true))
+returns-then-not-size_ok c = rw c.function_refused.ensures (simp (refused c.size_ok.ensures (ap not c.if-not-size_ok.true)))
 
 pub returns-then-not-encodings_ok : goal.returns-then-not-encodings_ok
 unfolding dwarf_asks meant ask and_then question_of pick
-returns-then-not-encodings_ok c = simp (accepted c.size_ok.ensures (ap not c.if-not-size_ok.false), refused c.encodings_ok.ensures (ap not c.if-not-encodings_ok.true))
+returns-then-not-encodings_ok c = rw c.function_refused-then-not-encodings_ok.ensures (simp (accepted c.size_ok.ensures (ap not c.if-not-size_ok.false), refused c.encodings_ok.ensures (ap not c.if-not-encodings_ok.true)))
 
 pub returns-in_err-lines_ask : goal.returns-in_err-lines_ask
 returns-in_err-lines_ask c =
@@ -29,7 +29,7 @@ returns-in_err-lines_ask c =
 pub returns-then-not-pairs_ok : goal.returns-then-not-pairs_ok
 unfolding ask question_of pick
 returns-then-not-pairs_ok c =
-    rw (lines_yes (inputs_of c.args.x.now) c.args.k c.args.e.now (accepted c.size_ok.ensures (ap not c.if-not-size_ok.false)) (accepted c.encodings_ok.ensures (ap not c.if-not-encodings_ok.false)) c.lines_ask.ensures (ap numbered_at c.in_ok-lines_ask.was))
+    rw (c.function_refused-then-not-pairs_ok.ensures, lines_yes (inputs_of c.args.x.now) c.args.k c.args.e.now (accepted c.size_ok.ensures (ap not c.if-not-size_ok.false)) (accepted c.encodings_ok.ensures (ap not c.if-not-encodings_ok.false)) c.lines_ask.ensures (ap numbered_at c.in_ok-lines_ask.was))
     (simp (refused c.pairs_ok.ensures (ap not c.if-not-pairs_ok.true)) refl)
 
 pub returns : goal.returns

@@ -8,18 +8,18 @@ use Rattle.lists.proofs.Answers.{accepted, refused}
 use Rattle.dwarf.specs.Asks.{lines_asks}
 use Rattle.dwarf.proofs.lines_ask.Goals as goal
 
-pub returns-then-lines_fine : goal.returns-then-lines_fine
+pub returns-then-fine : goal.returns-then-fine
 unfolding lines_asks ask and_then question_of pick
-returns-then-lines_fine c = let p = c.lines_fine.ensures c.if-lines_fine.true in simp (p.0, p.1) refl
+returns-then-fine c = let p = c.fine.ensures c.if-fine.true in simp (p.0, p.1) refl
 
 pub returns-then-not-steps_ok : goal.returns-then-not-steps_ok
 unfolding lines_asks ask and_then question_of pick
-returns-then-not-steps_ok c = simp (refused c.steps_ok.ensures (ap not c.if-not-steps_ok.true)) refl
+returns-then-not-steps_ok c = rw c.function_refused.ensures (simp (refused c.steps_ok.ensures (ap not c.if-not-steps_ok.true)) refl)
 
-pub returns-then-not-rows_whole : goal.returns-then-not-rows_whole
+pub returns-then-not-whole : goal.returns-then-not-whole
 unfolding lines_asks ask and_then question_of pick
-returns-then-not-rows_whole c = simp (accepted c.steps_ok.ensures (ap not c.if-not-steps_ok.false), refused c.rows_whole.ensures (ap not c.if-not-rows_whole.true)) refl
+returns-then-not-whole c = rw c.function_refused-then-not-whole.ensures (simp (accepted c.steps_ok.ensures (ap not c.if-not-steps_ok.false), refused c.whole.ensures (ap not c.if-not-whole.true)) refl)
 
 pub returns : goal.returns
 unfolding lines_asks ask and_then question_of pick
-returns c = simp (accepted c.steps_ok.ensures (ap not c.if-not-steps_ok.false), accepted c.rows_whole.ensures (ap not c.if-not-rows_whole.false)) refl
+returns c = simp (accepted c.steps_ok.ensures (ap not c.if-not-steps_ok.false), accepted c.whole.ensures (ap not c.if-not-whole.false)) refl

@@ -1,17 +1,18 @@
 -- `header_keys::ahead` meets its contract.
-use mathlib.Core.Bool.{not}
-use mathlib.Core.Path.{ap}
-use Rattle.header_keys.proofs.Counting.{start, turn, stopped, ended}
+use mathlib.Core.Path.{◌≡◌}
+use mathlib.Core.Bool.{true, false}
+use Prim.Native.Nat.{◌+◌}
+use borrow.Author.Rules.{rules}
+use borrow.Author.Tests.{tests}
+use Rattle.std.proofs.lemmas.Iterator.{first_from_Range}
+use Rattle.format.specs.Headers.{leads}
+use Rattle.format.specs.Lists.{row_at}
+use Rattle.header_keys.proofs.Counting.{counted}
 use Rattle.header_keys.proofs.ahead.Goals as goal
 
-pub loop-i-init : goal.loop-i-init
-loop-i-init c = start _ _ _
-
-pub returns-then-not-leads_at : goal.returns-then-not-leads_at
-returns-then-not-leads_at c = stopped c.loop-i.invariant c.loop-i-test.true c.leads_at.ensures (ap not c.if-not-leads_at.true)
-
-pub loop-i-preserved : goal.loop-i-preserved
-loop-i-preserved c = turn c.loop-i.invariant c.loop-i-test.true c.leads_at.ensures (ap not c.if-not-leads_at.false)
-
 pub returns : goal.returns
-returns c = ended c.loop-i.invariant c.loop-i-test.false
+returns c =
+    let f = row_at c.args.rows.now in
+    let at = c.args.e.now.rows_at in
+    let h = first_from_Range _ _ _ c.find.result (λ k. leads (f (at + k)) ≡ false) (λ k. leads (f (at + k)) ≡ true) c.find.ensures.ran (λ x q k. search (rules, tests)) (λ x q k. search (rules, tests)) in
+    rw c.unwrap_or.ensures (counted f at c.args.e.now.rows c.find.result h)

@@ -1,14 +1,13 @@
 -- `owners::choose` meets its contract.
 use mathlib.Core.Path.{ap, ◌≡◌, ◌∙◌, sym}
 use mathlib.Core.Bool.{not, false}
-use Prim.Native.Nat.{◌-◌, ◌<◌}
+use Prim.Native.Nat.{◌<◌}
 use native.Mathlib.Omega.{arith}
 use lib.ListN.{length}
-use borrow.Author.Rules.{rules}
 use Rattle.header_keys.specs.Functions.{RowsReady}
 use Rattle.header_keys.specs.Inputs.{inputs_of}
 use Rattle.owners.proofs.Finding.{shares}
-use Rattle.owners.proofs.Walking.{Walking, first_low, near, found, lower}
+use Rattle.owners.proofs.Walking.{Walking, left, near, found, lower}
 use Rattle.owners.proofs.Walking as walking
 use Rattle.owners.proofs.Comparing.{rows_taken, Asked, turn, differ, unlike, by_rows_lem, by_counts}
 use Rattle.owners.proofs.Comparing as comparing
@@ -23,43 +22,29 @@ own-ready c =
 other-ready : (c : After-function-other)
     → RowsReady c.args.x.now.lists.rows.now c.function-other.result.rows_at c.function-other.result.rows
 other-ready c =
-    let next = c.functions.next in
-    rows_taken c.args.x.now.section c.args.x.now.lists.functions.now c.args.x.now.lists.rows.now (next - 1) c.function-other.result c.function-other.ensures
-    (c.requires.0.rows_ready (next - 1) (omega (arith, near c.requires.1 c.functions.invariant c.functions-test.true)))
+    rows_taken c.args.x.now.section c.args.x.now.lists.functions.now c.args.x.now.lists.rows.now c.in-Some.j c.function-other.result c.function-other.ensures
+    (c.requires.0.rows_ready c.in-Some.j (omega (arith, near c.requires.1 c.functions.invariant c.in-Some.is)))
 
 asked : (c : After-same_kind_and_signal)
-    → Asked (inputs_of c.args.x.now) (c.functions.next - 1) c.args.k c.function-other.result c.function-own.result c.same_kind_and_signal.result
+    → Asked (inputs_of c.args.x.now) c.in-Some.j c.args.k c.function-other.result c.function-own.result c.same_kind_and_signal.result
 asked c = record { first = c.function-other.ensures; second = c.function-own.ensures; answer = c.same_kind_and_signal.ensures }
 
 -- the next turn, where the function has another key
 on-next : (c : After-same_kind_and_signal)
-    → shares (inputs_of c.args.x.now) c.args.k (c.functions.next - 1) ≡ false
+    → shares (inputs_of c.args.x.now) c.args.k c.in-Some.j ≡ false
     → Walking (inputs_of c.args.x.now) (length c.args.chains.now.heads.now) c.args.k c.behind-next.result c.args.chains.now.links.now
 on-next c e =
-    rw c.behind-next.ensures (walking.turn c.requires.1 c.functions.invariant c.functions-test.true e)
+    rw c.behind-next.ensures (walking.turn c.requires.1 c.functions.invariant c.in-Some.is e)
 
 -- which is behind the one that is looked at
-goes_down : (c : After-behind-next) → c.behind-next.result < c.functions.next
-goes_down c =
-    omega (arith, c.behind-next.ensures, lower c.requires.1 c.functions.invariant c.functions-test.true)
+goes_down : (c : After-behind-next) → left c.behind-next.result < left c.functions.next
+goes_down c = rw c.behind-next.ensures (lower c.requires.1 c.functions.invariant c.in-Some.is)
 
 pub leading_count-count-requires : goal.leading_count-count-requires
 leading_count-count-requires c = own-ready (goal.at.leading_count-count-requires c).After-function-own
 
-pub overflow_add-next : goal.overflow_add-next
-overflow_add-next c =
-    search (rules, first_low c.requires.1, c.requires.1.long)
-
 pub functions-init : goal.functions-init
-functions-init c = walking.start c.requires.1
-
-pub behind-next-requires : goal.behind-next-requires
-behind-next-requires c =
-    omega (arith, near c.requires.1 c.functions.invariant c.functions-test.true, c.requires.1.long)
-
-pub function-other-requires : goal.function-other-requires
-function-other-requires c =
-    omega (arith, near c.requires.1 c.functions.invariant c.functions-test.true, c.requires.0.within)
+functions-init c = rw c.then_some-next.ensures (walking.start c.requires.1)
 
 pub functions-smaller-then-not-same_kind_and_signal : goal.functions-smaller-then-not-same_kind_and_signal
 functions-smaller-then-not-same_kind_and_signal c = goes_down (goal.at.functions-smaller-then-not-same_kind_and_signal c).After-behind-next
@@ -104,10 +89,10 @@ pub rows-preserved : goal.rows-preserved
 rows-preserved c =
     turn c.rows.invariant c.rows-test.true c.same_leading.ensures (ap not c.if-not-same_leading.false)
 
-pub returns-in-functions : goal.returns-in-functions
-returns-in-functions c =
-    found c.requires.1 c.functions.invariant c.functions-test.true
-    (by_rows_lem (asked (goal.at.returns-in-functions c).After-same_kind_and_signal) (ap not c.if-not-same_kind_and_signal.false) (comparing.ended c.rows.invariant c.rows-test.false))
+pub returns-in-Some : goal.returns-in-Some
+returns-in-Some c =
+    found c.requires.1 c.functions.invariant c.in-Some.is
+    (by_rows_lem (asked (goal.at.returns-in-Some c).After-same_kind_and_signal) (ap not c.if-not-same_kind_and_signal.false) (comparing.ended c.rows.invariant c.rows-test.false))
 
 pub returns : goal.returns
-returns c = walking.ended c.requires.1 c.functions.invariant c.functions-test.false
+returns c = walking.ended c.requires.1 c.functions.invariant c.in_default.is

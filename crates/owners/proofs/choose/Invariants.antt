@@ -1,7 +1,7 @@
 use lib.ListN.{length}
 use Rattle.header_keys.specs.Inputs.{inputs_of}
 use Rattle.owners.specs.Owners.{leading_in}
-use Rattle.owners.proofs.Walking.{Walking}
+use Rattle.owners.proofs.Walking.{Walking, left}
 use Rattle.owners.proofs.Comparing.{Comparing}
 use Rattle.owners.proofs.choose.Given as goal
 
@@ -13,4 +13,4 @@ abbrev pub invariant-functions : goal.invariant-functions
 invariant-functions l = Walking (inputs_of l.x) (length l.chains.heads.now) l.k l.next l.chains.links.now
 
 abbrev pub decreases-functions : goal.decreases-functions
-decreases-functions l = l.next
+decreases-functions l = left l.next

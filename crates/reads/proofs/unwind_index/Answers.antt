@@ -7,11 +7,11 @@ pub returns-in_default : goal.returns-in_default
 unfolding asked
 returns-in_default c =
     let a = c.args in
-    index_unasked a.section.now a.relocations.now a.kind a.word a.places.now (rw c.in_default.is at c.section_of.ensures) c.answer_indexed.ensures
+    index_unasked a.section.now a.relocations.now a.kind a.word a.places.now (rw c.in_default.is at c.section_of.ensures) c.from.ensures
 
 pub returns : goal.returns
 unfolding asked
 returns c =
     let a = c.args in
     let d = rw c.in-Some.is at c.section_of.ensures in
-    index_asked a.section.now a.relocations.now a.kind a.word a.places.now d.2.0 c.answer_indexed-2.ensures (rw (d.0, d.1, d.2.1) at c.index_in.ensures)
+    index_asked a.section.now a.relocations.now a.kind a.word a.places.now d.2.0 c.from-2.ensures (rw (d.0, d.1, d.2.1) at c.index_in.ensures)

@@ -7,10 +7,10 @@ use Rattle.reads.proofs.unwind_locate_at.Goals as goal
 
 pub returns-in_default : goal.returns-in_default
 unfolding asked
-returns-in_default c = c.answer_located.ensures ∙ at_unasked _ _ _ _ _ (rw c.in_default.is at c.section_of.ensures)
+returns-in_default c = c.from.ensures ∙ at_unasked _ _ _ _ _ (rw c.in_default.is at c.section_of.ensures)
 
 pub returns : goal.returns
 unfolding asked
 returns c =
     let d = rw c.in-Some.is at c.section_of.ensures in
-    c.answer_located-2.ensures ∙ ap located_as (rw (d.0, d.2.1, d.2.2) at c.locate_at.ensures) ∙ at_asked _ _ _ _ _ d.2.0
+    c.from-2.ensures ∙ ap located_as (rw (d.0, d.2.1, d.2.2) at c.locate_at.ensures) ∙ at_asked _ _ _ _ _ d.2.0

@@ -22,10 +22,10 @@ step_relocs-requires c = (
   behind_ready c.args.f.now.sound c.others.ensures,
   omega (arith, c.args.p.now.low, c.fields_size.ensures.1),
   let room = relaxed_room c.args.f.now.debug c.args.f.now.machine.now c.args.p.now.at c.args.p.now.cie c.args.p.now.table c.args.f.now.extent c.args.f.now.rows.now c.args.pairs.now (behind_few c.others.ensures) c.in-Some.is in
-      rw (c.others.ensures.word, c.others.ensures.list, c.others.ensures.from, c.others.ensures.count, c.fields_size.ensures.0, c.of.ensures) (omega (arith, c.requires.1, c.field_relocs-a.ensures.past)),
+      rw (c.others.ensures.word, c.others.ensures.list, c.others.ensures.from, c.others.ensures.count, c.fields_size.ensures.0, c.of.ensures.pairs) (omega (arith, c.requires.1, c.field_relocs-a.ensures.past)),
 )
 
 pub returns : goal.returns
 returns c =
     rw (relaxed_numbers c.args.f.now.debug c.args.f.now.machine.now c.args.p.now.at c.args.p.now.cie c.args.p.now.table c.args.f.now.extent c.args.f.now.rows.now c.args.pairs.now (behind_few c.others.ensures) c.in-Some.is)
-    (c.field_relocs-a.ensures then (rw (c.others.ensures.word, c.others.ensures.list, c.others.ensures.from, c.others.ensures.count, c.fields_size.ensures.0, c.of.ensures) at c.step_relocs.ensures))
+    (c.field_relocs-a.ensures then (rw (c.others.ensures.word, c.others.ensures.list, c.others.ensures.from, c.others.ensures.count, c.fields_size.ensures.0, c.of.ensures.pairs) at c.step_relocs.ensures))

@@ -19,4 +19,4 @@ pub overflow_add-result : goal.overflow_add-result
 overflow_add-result c = omega (arith, c.field_relocs_count-n.ensures.1, c.step_relocs_count.ensures.1, c.args.f.now.sound.few)
 
 pub returns : goal.returns
-returns c = rw (relaxed_count c.args.f.now.debug c.args.f.now.machine.now 0 0 0 c.args.f.now.extent c.args.f.now.rows.now c.args.pairs.now (behind_few c.others.ensures) c.in-Some.is) (omega (arith, c.field_relocs_count-n.ensures.0, rw (c.others.ensures.list, c.others.ensures.from, c.others.ensures.count, c.of.ensures) at c.step_relocs_count.ensures.0))
+returns c = rw (relaxed_count c.args.f.now.debug c.args.f.now.machine.now 0 0 0 c.args.f.now.extent c.args.f.now.rows.now c.args.pairs.now (behind_few c.others.ensures) c.in-Some.is) (omega (arith, c.field_relocs_count-n.ensures.0, rw (c.others.ensures.list, c.others.ensures.from, c.others.ensures.count, c.of.ensures.pairs) at c.step_relocs_count.ensures.0))

@@ -25,4 +25,4 @@ frame_offset-requires c =
 pub returns : goal.returns
 returns c =
     rw (frame_bytes c.args.word.bytes 0x0c 0x12 (uleb c.args.reg) c.args.z)
-    ((rw (c.by_sign.ensures, to_z-of_z c.ranges.z) at c.byte-a.ensures) then c.uleb-b.ensures then (rw (to_z-of_z c.ranges.z) at c.frame_offset.ensures))
+    ((rw (c.by_sign.ensures, to_z-of_z c.ranges.z) at c.byte-a.ensures) then (rw c.from.ensures at c.uleb-b.ensures) then (rw (to_z-of_z c.ranges.z) at c.frame_offset.ensures))

@@ -3,4 +3,4 @@ use Rattle.format.proofs.PutLaws.{◌then◌}
 use Rattle.rows.proofs.in_register.Goals as goal
 
 pub returns : goal.returns
-returns c = c.named-a.ensures then c.uleb.ensures
+returns c = c.named-a.ensures then (rw c.from.ensures at c.uleb.ensures)

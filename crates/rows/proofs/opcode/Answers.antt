@@ -19,4 +19,4 @@ pub uleb-requires : goal.uleb-requires
 uleb-requires c = let h = simp (register_behind c.args.short c.args.long c.args.reg [] c.if-reg-le-MOST_REGISTER_IN_OPCODE.false, append-nil (uleb c.args.reg)) at c.requires.1 in search rules
 
 pub returns : goal.returns
-returns c = rw (register_behind c.args.short c.args.long c.args.reg [] c.if-reg-le-MOST_REGISTER_IN_OPCODE.false, append-nil (uleb c.args.reg)) (c.byte-a.ensures then c.uleb.ensures)
+returns c = rw (register_behind c.args.short c.args.long c.args.reg [] c.if-reg-le-MOST_REGISTER_IN_OPCODE.false, append-nil (uleb c.args.reg)) (c.byte-a.ensures then (rw c.from.ensures at c.uleb.ensures))

@@ -12,12 +12,12 @@ use Rattle.rows.proofs.Factors.{frame_bytes, offset_ten}
 use Rattle.rows.proofs.row_size.Goals as goal
 
 pub overflow_add-result : goal.overflow_add-result
-overflow_add-result c = omega (arith, uleb_ten c.in-DefCfa.reg (omega (arith, c.in-DefCfa.known_told-1-own.given)))
+overflow_add-result c = omega (arith, uleb_ten c.from.result (omega (arith, c.from.ensures, c.in-DefCfa.known_told-1-own.given)))
 
 pub overflow_add-result-in-DefCfa : goal.overflow_add-result-in-DefCfa
 overflow_add-result-in-DefCfa c =
     let h = rw (passed c.in-DefCfa.z (omega (arith, c.in-DefCfa.known_told-1-own.given))) at c.frame_offset_size.ensures in
-    omega (arith, uleb_ten c.in-DefCfa.reg (omega (arith, c.in-DefCfa.known_told-1-own.given)), offset_ten c.args.word.bytes c.in-DefCfa.z c.args.word.small.0 (omega (arith, c.in-DefCfa.known_told-1-own.given)))
+    omega (arith, uleb_ten c.from.result (omega (arith, c.from.ensures, c.in-DefCfa.known_told-1-own.given)), offset_ten c.args.word.bytes c.in-DefCfa.z c.args.word.small.0 (omega (arith, c.in-DefCfa.known_told-1-own.given)))
 
 pub overflow_add-result-in-DefCfaOffset : goal.overflow_add-result-in-DefCfaOffset
 overflow_add-result-in-DefCfaOffset c =
@@ -25,27 +25,27 @@ overflow_add-result-in-DefCfaOffset c =
     omega (arith, offset_ten c.args.word.bytes c.in-DefCfaOffset.z c.args.word.small.0 (omega (arith, c.in-DefCfaOffset.known_told-in-DefCfaOffset-1-own.given)))
 
 pub overflow_add-result-in-DefCfaRegister : goal.overflow_add-result-in-DefCfaRegister
-overflow_add-result-in-DefCfaRegister c = omega (arith, uleb_ten c.in-DefCfaRegister.reg (omega (arith, c.in-DefCfaRegister.known_told-in-DefCfaRegister-1-own.given)))
+overflow_add-result-in-DefCfaRegister c = omega (arith, uleb_ten c.from-in-DefCfaRegister.result (omega (arith, c.from-in-DefCfaRegister.ensures, c.in-DefCfaRegister.known_told-in-DefCfaRegister-1-own.given)))
 
 pub overflow_add-result-in-Undefined : goal.overflow_add-result-in-Undefined
-overflow_add-result-in-Undefined c = omega (arith, uleb_ten c.in-Undefined.reg (omega (arith, c.in-Undefined.known_told-in-Undefined-1-own.given)))
+overflow_add-result-in-Undefined c = omega (arith, uleb_ten c.from-in-Undefined.result (omega (arith, c.from-in-Undefined.ensures, c.in-Undefined.known_told-in-Undefined-1-own.given)))
 
 pub overflow_add-result-in-SameValue : goal.overflow_add-result-in-SameValue
-overflow_add-result-in-SameValue c = omega (arith, uleb_ten c.in-SameValue.reg (omega (arith, c.in-SameValue.known_told-in-SameValue-1-own.given)))
+overflow_add-result-in-SameValue c = omega (arith, uleb_ten c.from-in-SameValue.result (omega (arith, c.from-in-SameValue.ensures, c.in-SameValue.known_told-in-SameValue-1-own.given)))
 
 pub overflow_add-result-in-InRegister : goal.overflow_add-result-in-InRegister
-overflow_add-result-in-InRegister c = omega (arith, uleb_ten c.in-InRegister.reg (omega (arith, c.in-InRegister.known_told-in-InRegister-1-own.given)))
+overflow_add-result-in-InRegister c = omega (arith, uleb_ten c.from-in-InRegister.result (omega (arith, c.from-in-InRegister.ensures, c.in-InRegister.known_told-in-InRegister-1-own.given)))
 
 pub overflow_add-result-in-InRegister-2 : goal.overflow_add-result-in-InRegister-2
 overflow_add-result-in-InRegister-2 c =
     let k = c.in-InRegister.known_told-in-InRegister-1-own.given in
-    let r = c.in-InRegister in
-    omega (arith, uleb_ten r.reg (omega (arith, k)), uleb_ten r.other (omega (arith, k)))
+    omega (arith, uleb_ten c.from-in-InRegister.result (omega (arith, c.from-in-InRegister.ensures, k)), uleb_ten c.from-in-InRegister-2.result (omega (arith, c.from-in-InRegister-2.ensures, k)))
 
 pub returns-in-DefCfa : goal.returns-in-DefCfa
 unfolding row_bytes
 returns-in-DefCfa c =
     let h = rw (passed c.in-DefCfa.z (omega (arith, c.in-DefCfa.known_told-1-own.given))) at c.frame_offset_size.ensures in
+    let g = rw c.from.ensures at c.uleb_size.ensures in
     rw c.in-DefCfa.is (simp (frame_bytes c.args.word.bytes 0x0c 0x12 (uleb c.in-DefCfa.reg) c.in-DefCfa.z, length-append) (search rules))
 
 pub returns-in-DefCfaOffset : goal.returns-in-DefCfaOffset
@@ -56,7 +56,7 @@ returns-in-DefCfaOffset c =
 
 pub returns-in-DefCfaRegister : goal.returns-in-DefCfaRegister
 unfolding row_bytes
-returns-in-DefCfaRegister c = rw c.in-DefCfaRegister.is (search rules)
+returns-in-DefCfaRegister c = let g = rw c.from-in-DefCfaRegister.ensures at c.uleb_size-in-DefCfaRegister.ensures in rw c.in-DefCfaRegister.is (search rules)
 
 pub returns-in-Offset : goal.returns-in-Offset
 unfolding row_bytes
@@ -68,7 +68,7 @@ returns-in-Restore c = rw c.in-Restore.is (c.opcode_size.ensures ∙ sym (regist
 
 pub returns-in-Undefined : goal.returns-in-Undefined
 unfolding row_bytes
-returns-in-Undefined c = rw c.in-Undefined.is (search rules)
+returns-in-Undefined c = let g = rw c.from-in-Undefined.ensures at c.uleb_size-in-Undefined.ensures in rw c.in-Undefined.is (search rules)
 
 pub returns-in-RememberState : goal.returns-in-RememberState
 unfolding row_bytes
@@ -84,8 +84,11 @@ returns-in-NegateRaState c = rw c.in-NegateRaState.is
 
 pub returns-in-SameValue : goal.returns-in-SameValue
 unfolding row_bytes
-returns-in-SameValue c = rw c.in-SameValue.is (search rules)
+returns-in-SameValue c = let g = rw c.from-in-SameValue.ensures at c.uleb_size-in-SameValue.ensures in rw c.in-SameValue.is (search rules)
 
 pub returns-in-InRegister : goal.returns-in-InRegister
 unfolding row_bytes
-returns-in-InRegister c = rw c.in-InRegister.is (simp length-append (search rules))
+returns-in-InRegister c =
+    let g = rw c.from-in-InRegister.ensures at c.uleb_size-in-InRegister.ensures in
+    let k = rw c.from-in-InRegister-2.ensures at c.uleb_size-in-InRegister-2.ensures in
+    rw c.in-InRegister.is (simp length-append (search rules))

@@ -9,12 +9,12 @@ use Rattle.rows.proofs.Bytes.{saved_above, saved_below, register-length, uleb_te
 use Rattle.rows.proofs.saved_size.Goals as goal
 
 pub overflow_add-result : goal.overflow_add-result
-overflow_add-result c = omega (arith, uleb_ten c.args.reg (omega arith))
+overflow_add-result c = omega (arith, uleb_ten c.from.result (omega (arith, c.from.ensures)))
 
 pub overflow_add-result-then-z-lt0 : goal.overflow_add-result-then-z-lt0
 overflow_add-result-then-z-lt0 c =
     let k = rw (to_z-of_z c.ranges.z) at c.sleb_size.ensures in
-    omega (arith, uleb_ten c.args.reg (omega arith), sleb_ten c.args.z c.ranges.z.sfits)
+    omega (arith, uleb_ten c.from.result (omega (arith, c.from.ensures)), sleb_ten c.args.z c.ranges.z.sfits)
 
 pub returns-then-z-lt0 : goal.returns-then-z-lt0
 returns-then-z-lt0 c = rw (saved_above c.args.reg c.args.z c.ranges.z c.if-z-lt0.true, length-append) (search rules)

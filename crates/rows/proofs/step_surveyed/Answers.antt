@@ -1,5 +1,9 @@
 -- `rows::step_surveyed` meets its contract.
+use mathlib.Core.Path.{sym, ◌∙◌}
+use Prim.Native.Nat.{◌^◌}
 use native.Mathlib.Omega.{arith}
+use lib.Dec.{ltb→lt}
+use Rattle.format.proofs.Choice.{is_yes_lem}
 use Rattle.format.proofs.Sizes.{step_short}
 use Rattle.rows.proofs.Steps.{step_none, step_some, form_0, form-length}
 use Rattle.rows.proofs.step_surveyed.Goals as goal
@@ -13,4 +17,4 @@ returns-then-by-le-MOST_IN_OPCODE c =
     (omega arith, rw (step_some c.args.by c.if-by-eq0.false) (omega (arith, form-length c.args.by)), omega arith)
 
 pub returns : goal.returns
-returns c = (c.if-by-ge-STEPS.false, c.advance_size.ensures, omega (arith, step_short c.args.by))
+returns c = (ltb→lt c.args.by (2 ^ 32) (is_yes_lem (sym c.step_ok.ensures ∙ c.if-not-step_ok.false)), c.advance_size.ensures, omega (arith, step_short c.args.by))

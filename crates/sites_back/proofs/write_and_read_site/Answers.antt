@@ -8,17 +8,17 @@ use Rattle.sites_back.proofs.Together.{front_of, together}
 use Rattle.sites_back.proofs.write_and_read_site.Goals as goal
 
 pub numbers_in-m-requires : goal.numbers_in-m-requires
-numbers_in-m-requires c = (front_of _ _ _ _ _ c.relaxed_table-outcome.ensures).relocations_fit
+numbers_in-m-requires c = (front_of _ _ _ _ _ (rw c.from.ensures at c.relaxed_table-outcome.ensures)).relocations_fit
 
 pub slice_bounds-table_place-end : goal.slice_bounds-table_place-end
-slice_bounds-table_place-end c = sym (length-take-le _ _ (rw c.bytes_in-n.ensures (front_of _ _ _ _ _ c.relaxed_table-outcome.ensures).bytes_fit))
+slice_bounds-table_place-end c = sym (length-take-le _ _ (rw c.bytes_in-n.ensures (front_of _ _ _ _ _ (rw c.from.ensures at c.relaxed_table-outcome.ensures)).bytes_fit))
 
 pub slice_bounds-table_place-end-2 : goal.slice_bounds-table_place-end-2
-slice_bounds-table_place-end-2 c = sym (length-take-le _ _ (rw c.numbers_in-m.ensures (front_of _ _ _ _ _ c.relaxed_table-outcome.ensures).relocations_fit))
+slice_bounds-table_place-end-2 c = sym (length-take-le _ _ (rw c.numbers_in-m.ensures (front_of _ _ _ _ _ (rw c.from.ensures at c.relaxed_table-outcome.ensures)).relocations_fit))
 
 pub returns : goal.returns
 returns c =
-    let w = c.relaxed_table-outcome.ensures in
+    let w = rw c.from.ensures at c.relaxed_table-outcome.ensures in
     record {
       writes = w;
       read_back = together _ _ _ _ _ w _ _ c.bytes_in-n.ensures c.numbers_in-m.ensures (c.unwrap_or-place.ensures ∙ (ap (λ o. unwrap_or o (2 ^ 64 - 1)) c.table_place.ensures ∙ place_or _)) c.unwind_call_site-answer.ensures;

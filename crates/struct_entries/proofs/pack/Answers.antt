@@ -9,4 +9,4 @@ returns-then-not-ready c = says_no c.args.numbers.now c.args.functions.now c.arg
 pub returns : goal.returns
 returns c =
     let y = says_yes c.args.numbers.now c.args.functions.now c.args.rows.now c.ready.result c.ready.ensures (rw c.if-not-ready.false tt) in
-    (y.0, (rw c.put_functions.ensures at c.put_rows.ensures) ∙ y.1)
+    (y.0, (rw c.put_all.ensures at c.put_all-2.ensures) ∙ y.1)

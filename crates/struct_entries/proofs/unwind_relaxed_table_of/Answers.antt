@@ -2,6 +2,7 @@
 use mathlib.Core.Bool.{not}
 use mathlib.Core.Path.{ap}
 use Rattle.format.specs.Questions.{room_in}
+use Rattle.struct_entries.proofs.Sections.{of_table}
 use Rattle.struct_entries.proofs.Packing.{there, table_finished}
 use Rattle.struct_entries.proofs.Parts.{refuses, accepts, table_ready}
 use Rattle.struct_entries.proofs.unwind_relaxed_table_of.Goals as goal
@@ -13,8 +14,8 @@ returns-then-not-pack c =
     (room_in a.places.now a.bytes.now a.relocations.now c.args.sites.now) c.pack.ensures.1
     (refuses _ _ _ _ _ c.pack.result (ap not c.if-not-pack.true) c.table_without_numbers.ensures c.from.ensures)
 
-pub packed_table-requires : goal.packed_table-requires
-packed_table-requires c = rw c.pack.ensures.1 (there c.args.numbers.now c.args.functions.now c.args.rows.now c.pack.result c.pack.ensures.0 c.if-not-pack.false)
+pub packed-requires : goal.packed-requires
+packed-requires c = rw c.pack.ensures.1 (there c.args.numbers.now c.args.functions.now c.args.rows.now c.pack.result c.pack.ensures.0 c.if-not-pack.false)
 
 pub returns : goal.returns
 returns c =
@@ -24,4 +25,4 @@ returns c =
     (room_in a.places.now a.bytes.now a.relocations.now c.args.sites.now) c.pack.ensures.1
     (accepts _ _ _ _ _ c.pack.result (ap not c.if-not-pack.false)
     (table_ready a.format a.machine.now _ _ _ a.landings.now a.pairs.now _ (rw c.pack.ensures.1 h))
-    (c.packed_table.ensures.exports, c.packed_table.ensures.numbers_after))
+    (of_table _ _ _ c.packed.ensures.exports, c.packed.ensures.numbers_after))

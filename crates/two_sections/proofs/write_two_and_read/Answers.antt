@@ -4,8 +4,8 @@ use Rattle.two_sections.proofs.write_two_and_read.Goals as goal
 
 pub returns : goal.returns
 returns c =
-    let w = c.write_and_read-eh.ensures in
-    let w⁺ = c.write_and_read-debug.ensures in
+    let w = rw c.from-elf.ensures at c.write_and_read-eh.ensures in
+    let w⁺ = rw c.from-elf.ensures at c.write_and_read-debug.ensures in
     let p = promised _ _ _ _ _ _ _ _ _ _ _ _ _ _ w.writes w.reading_value _ _ _ _ _ _ _ _ _ w⁺.writes w⁺.reading_value in
     record {
       writes = p.0;

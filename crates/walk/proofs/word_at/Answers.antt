@@ -4,7 +4,7 @@ use mathlib.Core.Path.{sym}
 use Rattle.walk.proofs.word_at.Goals as goal
 
 pub returns-in_default : goal.returns-in_default
-returns-in_default c = word_none _ _ (sym c.in_default.ensures)
+returns-in_default c = word_none _ _ (rw c.from-place.ensures at (sym c.in_default.ensures))
 
 pub returns : goal.returns
-returns c = word_is _ _ (sym c.in-Some.ensures)
+returns c = word_is _ _ (rw c.from-place.ensures at (sym c.in-Some.ensures))

@@ -18,7 +18,7 @@ pub loop-read-preserved : goal.loop-read-preserved
 loop-read-preserved c =
     let i = c.loop-read.invariant in
     let g = c.in-Some.ensures.steps in
-    onward i g c.in-Some-read.is (mark_turn i.here (read i g ∙ c.in-Some-read.is) c.mark_operation-m.ensures)
+    onward i g c.in-Some-read.is (mark_turn i.here (read i g ∙ c.in-Some-read.is) c.mark_operation.ensures)
 
 pub returns : goal.returns
 returns c = mark_ended c.loop-read.invariant.here (all_read c.loop-read.invariant c.in-None.ensures.steps)

@@ -5,12 +5,12 @@ use Rattle.walked.proofs.stored.Goals as goal
 
 pub returns-in-Err : goal.returns-in-Err
 returns-in-Err c =
-    let x = refused c.args.out.now c.in-Err.is c.refusing.ensures in
+    let x = refused c.args.out.now c.in-Err.is c.from.ensures in
     record { result_value = x.0; out_after = x.1 }
 
 pub returns-then-out-len : goal.returns-then-out-len
 returns-then-out-len c =
-    let x = no_room c.args.out.now c.in-Ok.is (omega (arith, c.len.ensures.value, c.if-out-len.true)) c.refusing-then-out-len.ensures in
+    let x = no_room c.args.out.now c.in-Ok.is (omega (arith, c.len.ensures.value, c.if-out-len.true)) c.from-then-out-len.ensures in
     record { result_value = x.0; out_after = x.1 }
 
 pub store-requires : goal.store-requires

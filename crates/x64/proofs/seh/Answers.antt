@@ -11,7 +11,7 @@ pub returns-then-n-eq0 : goal.returns-then-n-eq0
 returns-then-n-eq0 c = let a = c.args in seh_empty a.functions.now a.codes.now (room_in a.markers.now a.bytes.now a.relocations.now a.info.now) c.if-n-eq0.true
 
 pub returns-then-not-codes_ok : goal.returns-then-not-codes_ok
-returns-then-not-codes_ok c = let a = c.args in seh_refused a.functions.now a.codes.now (room_in a.markers.now a.bytes.now a.relocations.now a.info.now) c.if-n-eq0.false (refused c.codes_ok.ensures (ap not c.if-not-codes_ok.true))
+returns-then-not-codes_ok c = let a = c.args in rw c.into.ensures (seh_refused a.functions.now a.codes.now (room_in a.markers.now a.bytes.now a.relocations.now a.info.now) c.if-n-eq0.false (refused c.codes_ok.ensures (ap not c.if-not-codes_ok.true)))
 
 pub invariant_of-x : goal.invariant_of-x
 invariant_of-x c = let a = c.args in record { listed = direct_listed a.functions.now a.codes.now (is_yes_lem (accepted c.codes_ok.ensures (ap not c.if-not-codes_ok.false))) }

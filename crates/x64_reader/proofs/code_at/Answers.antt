@@ -32,4 +32,4 @@ meaning-requires c =
 pub returns : goal.returns
 returns c =
     let a = c.args in
-    one_code a.frame a.s.now a.at (omega arith) c.wide.ensures.0 c.wide-b.ensures.0 (bytes_op _ c.in_ok-n.ensures) (sym c.in_ok-v.ensures) c.meaning.ensures
+    one_code a.frame a.s.now a.at (omega arith) c.from.ensures c.wide-b.ensures.0 (bytes_op _ c.in_ok-n.ensures) (sym c.in_ok-v.ensures) c.meaning.ensures

@@ -13,7 +13,7 @@ returns-then-size-lt4 c = elim c.then-size-lt4.branch [
 ]
 
 pub returns-then-size-p-2 : goal.returns-then-size-p-2
-returns-then-size-p-2 c = let a = c.args in no_slots a.info.now a.place (omega arith) c.wide-slots.ensures.0 (omega arith)
+returns-then-size-p-2 c = let a = c.args in no_slots a.info.now a.place (omega arith) c.from-slots.ensures (omega arith)
 
 pub returns : goal.returns
-returns c = let a = c.args in header_there a.info.now a.place c.if-info-p-ne1.false c.wide-slots.ensures.0 c.wide.ensures.0 refl (omega arith)
+returns c = let a = c.args in header_there a.info.now a.place c.if-info-p-ne1.false c.from-slots.ensures c.from.ensures refl (omega arith)

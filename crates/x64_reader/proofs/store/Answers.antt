@@ -27,8 +27,8 @@ overflow_sub-left c =
 pub overflow_mul-left : goal.overflow_mul-left
 overflow_mul-left c = omega (arith, c.requires.0, c.loop-code.invariant.going.here.many)
 
-pub put_code-requires : goal.put_code-requires
-put_code-requires c =
+pub put-requires : goal.put-requires
+put-requires c =
     let r = c.loop-code.invariant in
     let g = rw c.in-Some-code.is at c.in-Some.ensures.steps in
     omega (arith, c.requires.0, r.going.here.many, kept r.going.here, some_left r.going c.requires.1 (more r g.0) (there r g.1))
@@ -37,7 +37,7 @@ pub loop-code-preserved : goal.loop-code-preserved
 loop-code-preserved c =
     let r = c.loop-code.invariant in
     let g = rw c.in-Some-code.is at c.in-Some.ensures.steps in
-    onward r (λ p. Storing c.args.n (c.loop-code.left - 1) c.args.codes.now c.put_code.new.codes) g.0 g.1 g.2.0 g.2.1 g.2.2 (store_turn (some_left r.going c.requires.1 (more r g.0) (there r g.1)) c.put_code.ensures)
+    onward r (λ p. Storing c.args.n (c.loop-code.left - 1) c.args.codes.now c.put.new.codes) g.0 g.1 g.2.0 g.2.1 g.2.2 (store_turn (some_left r.going c.requires.1 (more r g.0) (there r g.1)) c.put.ensures)
 
 pub shape_of-codes : goal.shape_of-codes
 shape_of-codes c = kept c.loop-code.invariant.going.here

@@ -10,11 +10,6 @@ returns-in_default c =
     let x = refuses (no_record a.info.now a.place (length a.codes.now) c.in_default.ensures) c.refused.ensures in
     record { result_value = x.0; codes_after = x.1 }
 
-pub slice_bounds-slots-count : goal.slice_bounds-slots-count
-slice_bounds-slots-count c =
-    let h = c.in-Some.ensures in
-    omega (arith, h.past, h.starts)
-
 pub returns-in_default-count : goal.returns-in_default-count
 returns-in_default-count c =
     let a = c.args in

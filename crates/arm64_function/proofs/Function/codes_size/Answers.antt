@@ -14,14 +14,14 @@ loop-i-init c = summing_start c.prologue_size-size.ensures.0
 pub returns-then-size-gt-MOST_CODES : goal.returns-then-size-gt-MOST_CODES
 returns-then-size-gt-MOST_CODES c = summing_high c.loop-i.invariant c.if-size-gt-MOST_CODES.true
 
-pub own_size-size-requires : goal.own_size-size-requires
-own_size-size-requires c = (c.loop-i.invariant.low, c.loop-i-test.true)
+pub epilogue-requires : goal.epilogue-requires
+epilogue-requires c = (c.loop-i.invariant.low, c.loop-i-test.true)
 
 pub overflow_add-size-in-loop-i : goal.overflow_add-size-in-loop-i
 overflow_add-size-in-loop-i c = omega (arith, c.if-size-gt-MOST_CODES.false, c.own_size-size.ensures.1)
 
 pub loop-i-preserved : goal.loop-i-preserved
-loop-i-preserved c = summing_turn c.loop-i.invariant c.loop-i-test.true c.own_size-size.ensures.0
+loop-i-preserved c = summing_turn c.loop-i.invariant c.loop-i-test.true (rw (c.epilogue.ensures.0, c.epilogue.ensures.1) at c.own_size-size.ensures.0)
 
 pub returns : goal.returns
 unfolding held_to pick

@@ -7,4 +7,4 @@ use Rattle.arm64_lists.proofs.Lists.add_function.Given as goal
 
 abbrev pub invariant-loop-i : goal.invariant-loop-i
 invariant-loop-i l =
-    Adding (λ (i : ℕ). field epilogue_stride l.self.epilogues.now i 2) l.at l.n l.start l.i l.total × (l.start ≡ l.sum + field function_stride l.self.functions.now l.k 3)
+    Adding (λ (i : ℕ). field epilogue_stride l.self.epilogues.now i 2) l.at l.n l.start l.i l.total × (l.start ≡ l.sum + field function_stride l.fn.function.list.now l.fn.function.k 3)

@@ -16,25 +16,27 @@ overflow_sub-start c = omega (arith, (one c.args.self.now.section.now c.args.sel
 pub overflow_sub-start-in-Single : goal.overflow_sub-start-in-Single
 overflow_sub-start-in-Single c = omega (arith, (one c.args.self.now.section.now c.args.self.now.header c.args.self.now.spelled c.in-Single.is c.requires.0).fits)
 
+pub at-requires : goal.at-requires
+at-requires c = (one c.args.self.now.section.now c.args.self.now.header c.args.self.now.spelled c.in-Single.is c.requires.0).run
+
 pub put_one-requires : goal.put_one-requires
 put_one-requires c =
     let o = one c.args.self.now.section.now c.args.self.now.header c.args.self.now.spelled c.in-Single.is c.requires.0 in
-    (o.run, omega (arith, many_one c.args.self.now.header c.in-Single.is, c.requires.1), omega (arith, o.size, c.requires.2))
+    (omega (arith, many_one c.args.self.now.header c.in-Single.is, c.requires.1), omega (arith, o.size, ap length c.at.ensures, c.requires.2))
 
 pub returns-in-Single : goal.returns-in-Single
 returns-in-Single c =
     let o = one c.args.self.now.section.now c.args.self.now.header c.args.self.now.spelled c.in-Single.is c.requires.0 in
-    (listed_one c.args.self.now.section.now c.args.self.now.header c.args.self.now.spelled c.in-Single.is o c.put_one.ensures.0, c.put_one.ensures.1)
+    (listed_one c.args.self.now.section.now c.args.self.now.header c.args.self.now.spelled c.in-Single.is o (rw c.at.ensures at c.put_one.ensures.0), c.put_one.ensures.1)
 
-pub put_scoped-requires : goal.put_scoped-requires
-put_scoped-requires c =
+pub put-requires : goal.put-requires
+put-requires c =
     let w = by_words c.args.self.now.section.now c.args.self.now.header c.args.self.now.spelled c.in-Scoped.is in
     let t = total_some (record_epilogues c.args.self.now.header c.args.self.now.section.now) c.requires.0 in (
-      c.in-Scoped.is,
       rw w at t.0,
       omega (arith, many_all c.args.self.now.header c.in-Scoped.is, c.requires.1),
       omega (arith, ap (λ (x : Option (List Epilogue)). length (epilogue_codes (epilogues_in x))) w, t.1, c.requires.2),
     )
 
 pub returns-in-Scoped : goal.returns-in-Scoped
-returns-in-Scoped c = (rw (by_words c.args.self.now.section.now c.args.self.now.header c.args.self.now.spelled c.in-Scoped.is) c.put_scoped.ensures.0, c.put_scoped.ensures.1)
+returns-in-Scoped c = (rw (by_words c.args.self.now.section.now c.args.self.now.header c.args.self.now.spelled c.in-Scoped.is) c.put.ensures.0, c.put.ensures.1)

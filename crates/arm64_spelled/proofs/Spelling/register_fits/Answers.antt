@@ -9,8 +9,8 @@ returns-then-self-eq0 c = register_free _ _ c.if-self-eq0.true
 pub returns-then-register-self : goal.returns-then-register-self
 returns-then-register-self c = register_low _ _ (omega arith) (omega arith)
 
-pub returns-then-last_register-register : goal.returns-then-last_register-register
-returns-then-last_register-register c = register_high _ _ (omega arith) (omega arith) (omega (arith, c.last_register.ensures, c.if-last_register-register.true))
+pub returns-then-from-register : goal.returns-then-from-register
+returns-then-from-register c = register_high _ _ (omega arith) (omega arith) (omega (arith, c.from.ensures, c.kind_of.ensures.1, c.if-from-register.true))
 
 pub returns : goal.returns
-returns c = register_even _ _ (omega arith) (omega arith) (omega (arith, c.last_register.ensures, c.if-last_register-register.false))
+returns c = register_even _ _ (omega arith) (omega arith) (omega (arith, c.from.ensures, c.kind_of.ensures.1, c.if-from-register.false))

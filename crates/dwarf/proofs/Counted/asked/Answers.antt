@@ -10,7 +10,7 @@ use Rattle.dwarf.proofs.Whole.{behind_sums, askable_is, cleared_is, says_13, say
 use Rattle.dwarf.proofs.Counted.asked.Goals as goal
 
 pub returns-then-not-functions_ok : goal.returns-then-not-functions_ok
-returns-then-not-functions_ok c =
+returns-then-not-functions_ok c = rw c.into.ensures
     (says_13 (inputs_of c.args.self.now.input.now) c.args.to.now.places.now c.args.to.now.bytes.now c.args.to.now.relocations.now c.args.to.now.sites.now (refused (behind_sums (inputs_of c.args.self.now.input.now) c.args.self.now.sums (rw c.count-n.ensures at c.functions_ok.ensures)) (ap not c.if-not-functions_ok.true)), same)
 
 pub all_asks-requires : goal.all_asks-requires

@@ -1,11 +1,12 @@
 -- `dwarf::Counted::survey` meets its contract.
 use native.Mathlib.Omega.{arith}
 use Rattle.dwarf.proofs.Surveying.{start, owner_ready, next, turn, enough, ended}
+use Rattle.dwarf.proofs.Sizing.{is_nothing}
 use Rattle.dwarf.proofs.Owners.{looked}
 use Rattle.dwarf.proofs.Counted.survey.Goals as goal
 
 pub loop-k-init : goal.loop-k-init
-loop-k-init c = rw c.count-n.ensures (start _ c.requires)
+loop-k-init c = rw (is_nothing {t = c.default-t.result} c.default-t.ensures, c.count-n.ensures) (start _ c.requires)
 
 pub function_surveyed-requires : goal.function_surveyed-requires
 function_surveyed-requires c =

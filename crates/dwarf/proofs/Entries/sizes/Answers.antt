@@ -1,11 +1,11 @@
 -- `dwarf::Entries::sizes` meets its contract.
 use native.Mathlib.Omega.{arith}
-use Rattle.dwarf.proofs.Sizing.{start, next, turn, ended, owned_to}
+use Rattle.dwarf.proofs.Sizing.{is_nothing, start, next, turn, ended, owned_to}
 use Rattle.dwarf.proofs.Owners.{looked}
 use Rattle.dwarf.proofs.Entries.sizes.Goals as goal
 
 pub loop-k-init : goal.loop-k-init
-loop-k-init c = rw c.count-n.ensures (start _)
+loop-k-init c = rw (is_nothing {t = c.default-t.result} c.default-t.ensures, c.count-n.ensures) (start _)
 
 pub rows_size-size-requires : goal.rows_size-size-requires
 rows_size-size-requires c =

@@ -1,10 +1,11 @@
 -- `dwarf::Entries::store` meets its contract.
 use Rattle.lists.proofs.Lent.{same, then}
+use Rattle.dwarf.proofs.Sizing.{is_nothing}
 use Rattle.dwarf.proofs.Writing.{start, ready, turn, ended}
 use Rattle.dwarf.proofs.Entries.store.Goals as goal
 
 pub loop-k-init : goal.loop-k-init
-loop-k-init c = (rw c.count-functions.ensures (start _ c.requires), same)
+loop-k-init c = (rw (is_nothing {t = c.default-t.result} c.default-t.ensures, c.count-functions.ensures) (start _ c.requires), same)
 
 pub part-t-requires : goal.part-t-requires
 part-t-requires c =

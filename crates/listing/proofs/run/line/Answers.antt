@@ -1,5 +1,6 @@
 -- `listing::run::line` meets its contract.
-use Rattle.format.proofs.PutLaws.{◌then◌}
+use native.Mathlib.Omega.{arith}
+use Rattle.format.proofs.Copied.{copied}
 use Rattle.listing.proofs.StoredLines.{line_wrote}
 use Rattle.listing.proofs.run.line.Goals as goal
 
@@ -7,4 +8,4 @@ pub returns : goal.returns
 returns c =
     let a = c.args in
     line_wrote a.offset c.numbers_of-n.result a.rules c.numbers_of-n.ensures
-    (c.number-a.ensures then c.number-b.ensures then c.number-c.ensures then c.number-d.ensures then c.number-e.ensures then c.number-f.ensures then c.number.ensures)
+    (copied c.copy_from_slice.ensures.after (omega arith) (omega arith) c.requires)

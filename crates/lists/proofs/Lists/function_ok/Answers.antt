@@ -9,7 +9,7 @@ pub returns-then-not-outline_ok : goal.returns-then-not-outline_ok
 returns-then-not-outline_ok c = simp (function_is, refused c.outline_ok.ensures (ap not c.if-not-outline_ok.true))
 
 pub rows_ok-requires : goal.rows_ok-requires
-rows_ok-requires c = rows_inside _ _ _ _ _ (accepted c.outline_ok.ensures (ap not c.if-not-outline_ok.false))
+rows_ok-requires c = rw (c.number.ensures, c.number-2.ensures) (rows_inside _ _ _ _ _ (accepted c.outline_ok.ensures (ap not c.if-not-outline_ok.false)))
 
 pub returns : goal.returns
-returns c = simp (function_is, accepted c.outline_ok.ensures (ap not c.if-not-outline_ok.false)) c.rows_ok.ensures
+returns c = simp (function_is, accepted c.outline_ok.ensures (ap not c.if-not-outline_ok.false)) (rw (c.number.ensures, c.number-2.ensures) at c.rows_ok.ensures)

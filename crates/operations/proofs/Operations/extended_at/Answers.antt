@@ -1,13 +1,14 @@
 -- `Operations::extended_at` meets its contract.
 use mathlib.Core.Path.{sym}
+use Rattle.std.proofs.Common.{rules}
 use borrow.Author.Tests.{ne_eqb}
 use Rattle.format.specs.Prelude.{pick}
 use Rattle.format.specs.Rows.{read_extended}
 use Rattle.format.specs.Shortest.{extended_operands, numbers_short}
 use Rattle.operations.specs.Positions.{read_from}
-use Rattle.format.specs.declared.Row.TheVariants.{RememberState, RestoreState, NegateRaState}
+use Rattle.format.specs.declared.Row.TheVariants.{RememberState, RestoreState, NegateRaState, Restore, Undefined, SameValue, DefCfaRegister}
 use Rattle.format.specs.declared.Operation.TheVariants.{Nop, Does}
-use Rattle.operations.specs.Reads.{read_operand, operand_number, register_row, pair_row, step_at, register_row_at, offset_row_at, pair_row_at, in_register_at, extended_at}
+use Rattle.operations.specs.Reads.{read_operand, operand_number, pair_row, step_at, register_row_at, offset_row_at, pair_row_at, in_register_at, extended_at}
 use Rattle.operations.proofs.OperandLaws.{here}
 use Rattle.operations.proofs.Operations.extended_at.Goals as goal
 
@@ -32,16 +33,16 @@ unfolding extended_at read_extended extended_operands numbers_short pick pair_ro
 returns-in-5 c = rw c.in-5.is (rw c.in-5.is at c.pair_row_at.ensures)
 
 pub returns-in-6 : goal.returns-in-6
-unfolding extended_at read_extended extended_operands numbers_short pick register_row_at register_row
-returns-in-6 c = rw c.in-6.is (rw c.in-6.is at c.register_row_at.ensures)
+unfolding extended_at read_extended extended_operands numbers_short pick register_row_at
+returns-in-6 c = rw c.in-6.is (c.register_row_at.ensures Restore (λ x v e. search rules))
 
 pub returns-in-7 : goal.returns-in-7
-unfolding extended_at read_extended extended_operands numbers_short pick register_row_at register_row
-returns-in-7 c = rw c.in-7.is (rw c.in-7.is at c.register_row_at-in-7.ensures)
+unfolding extended_at read_extended extended_operands numbers_short pick register_row_at
+returns-in-7 c = rw c.in-7.is (c.register_row_at-in-7.ensures Undefined (λ x v e. search rules))
 
 pub returns-in-8 : goal.returns-in-8
-unfolding extended_at read_extended extended_operands numbers_short pick register_row_at register_row
-returns-in-8 c = rw c.in-8.is (rw c.in-8.is at c.register_row_at-in-8.ensures)
+unfolding extended_at read_extended extended_operands numbers_short pick register_row_at
+returns-in-8 c = rw c.in-8.is (c.register_row_at-in-8.ensures SameValue (λ x v e. search rules))
 
 pub returns-in-9 : goal.returns-in-9
 unfolding extended_at read_extended extended_operands numbers_short pick in_register_at
@@ -60,8 +61,8 @@ unfolding extended_at read_extended extended_operands numbers_short pick pair_ro
 returns-in-12 c = rw c.in-12.is (rw c.in-12.is at c.pair_row_at-in-12.ensures)
 
 pub returns-in-13 : goal.returns-in-13
-unfolding extended_at read_extended extended_operands numbers_short pick register_row_at register_row
-returns-in-13 c = rw c.in-13.is (rw c.in-13.is at c.register_row_at-in-13.ensures)
+unfolding extended_at read_extended extended_operands numbers_short pick register_row_at
+returns-in-13 c = rw c.in-13.is (c.register_row_at-in-13.ensures DefCfaRegister (λ x v e. search rules))
 
 pub returns-in-14 : goal.returns-in-14
 unfolding extended_at read_extended extended_operands numbers_short pick offset_row_at read_operand operand_number

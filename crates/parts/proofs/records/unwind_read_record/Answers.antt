@@ -21,12 +21,12 @@ returns-then-e c =
 pub placed-requires : goal.placed-requires
 placed-requires c = lies c.args.section.now _ c.args.place c.next_entry.ensures c.in-Ok.is
 
-pub returns-in-Ok-fields : goal.returns-in-Ok-fields
-returns-in-Ok-fields c =
+pub returns-in-Ok-record_fields : goal.returns-in-Ok-record_fields
+returns-in-Ok-record_fields c =
     let d = rw c.in-Some.is at c.layout_of.ensures in
-    sym (ap record_answer c.in-Ok-fields.is) ∙ (rw (c.placed.ensures.0, c.placed.ensures.1, c.placed.ensures.2, d.1, d.2) at c.fields.ensures) ∙ sym (at_record (record_entry_lem c.args.section.now c.args.kind c.args.word c.args.pointer c.args.place) d.0 (an_entry c.args.section.now _ c.args.place c.next_entry.ensures c.in-Ok.is d.1) c.if-e.false)
+    sym (ap record_answer c.in-Ok-record_fields.is) ∙ (rw (c.placed.ensures.0, c.placed.ensures.1, c.placed.ensures.2, d.1, d.2) at c.record_fields.ensures) ∙ sym (at_record (record_entry_lem c.args.section.now c.args.kind c.args.word c.args.pointer c.args.place) d.0 (an_entry c.args.section.now _ c.args.place c.next_entry.ensures c.in-Ok.is d.1) c.if-e.false)
 
 pub returns-in-Err : goal.returns-in-Err
 returns-in-Err c =
     let d = rw c.in-Some.is at c.layout_of.ensures in
-    c.refused-in-Err.ensures ∙ sym (ap record_answer c.in-Err.is) ∙ (rw (c.placed.ensures.0, c.placed.ensures.1, c.placed.ensures.2, d.1, d.2) at c.fields.ensures) ∙ sym (at_record (record_entry_lem c.args.section.now c.args.kind c.args.word c.args.pointer c.args.place) d.0 (an_entry c.args.section.now _ c.args.place c.next_entry.ensures c.in-Ok.is d.1) c.if-e.false)
+    c.refused-in-Err.ensures ∙ sym (ap record_answer c.in-Err.is) ∙ (rw (c.placed.ensures.0, c.placed.ensures.1, c.placed.ensures.2, d.1, d.2) at c.record_fields.ensures) ∙ sym (at_record (record_entry_lem c.args.section.now c.args.kind c.args.word c.args.pointer c.args.place) d.0 (an_entry c.args.section.now _ c.args.place c.next_entry.ensures c.in-Ok.is d.1) c.if-e.false)

@@ -12,26 +12,26 @@ skipped : (c : Joined-p) → Skips c.args.s.now c.if-p.at (personality_in c.args
 skipped c = elim c.if-p.branch [ then-p+in_ok-at w ↦ rw w.at-is (skipped_one c.args.s.now c.args.word c.args.p w.if-p.true w.in_ok-at.ensures) | else-p w ↦ rw w.at-is (skipped_none c.args.s.now c.args.word c.args.p w.if-p.false) ]
 
 encoded : (c : Joined-p-2) → Skips c.args.s.now c.if-p.at (personality_in c.args.p.personality c.args.word c.args.s.now) → Rests c.args.s.now true c.if-p-2.size.0 c.if-p-2.size.1 (lsda_in c.args.p.lsda c.args.word (drop c.if-p.at c.args.s.now))
-encoded c k = elim c.if-p-2.branch [ then-p-2+in_ok-lsda_in w ↦ rw w.size-is (found_one c.args.s.now c.args.word c.args.p k w.if-p-2.true w.in_ok-lsda_in.ensures) | else-p-2 w ↦ rw w.size-is (found_none c.args.s.now c.args.word c.args.p k true w.if-p-2.false) ]
+encoded c k = elim c.if-p-2.branch [ then-p-2+in_ok-lsda_in w ↦ rw w.size-is (found_one c.args.s.now c.args.word c.args.p k w.if-p-2.true (rw c.from-start.ensures at w.in_ok-lsda_in.ensures)) | else-p-2 w ↦ rw (w.size-is, c.from-start.ensures) (found_none c.args.s.now c.args.word c.args.p k true w.if-p-2.false) ]
 
 pub returns-in_err-at : goal.returns-in_err-at
 returns-in_err-at c = rw c.from_residual.ensures (letters_first c.args.s.now c.args.word c.args.p c.if-p.true c.in_err-at.ensures)
 
 pub returns-in_err-lsda_in : goal.returns-in_err-lsda_in
 returns-in_err-lsda_in c =
-    rw c.from_residual-in_err-lsda_in.ensures (letters_second c.args.s.now c.args.word c.args.p (skipped (goal.at.returns-in_err-lsda_in c).Joined-p) c.if-p-2.true c.in_err-lsda_in.ensures)
+    rw c.from_residual-in_err-lsda_in.ensures (letters_second c.args.s.now c.args.word c.args.p (skipped (goal.at.returns-in_err-lsda_in c).Joined-p) c.if-p-2.true (rw c.from-start.ensures at c.in_err-lsda_in.ensures))
 
 pub returns-then-s-end : goal.returns-then-s-end
 returns-then-s-end c =
     let j = goal.at.returns-then-s-end c in
     letters_ended c.args.s.now c.args.word c.args.p (skipped j.Joined-p) (encoded j.Joined-p-2 (skipped j.Joined-p)) c.if-s-end.true
 
-pub returns-then-s-end-ne27 : goal.returns-then-s-end-ne27
-returns-then-s-end-ne27 c =
-    let j = goal.at.returns-then-s-end-ne27 c in
-    letters_other c.args.s.now c.args.word c.args.p (skipped j.Joined-p) (encoded j.Joined-p-2 (skipped j.Joined-p)) c.if-s-end.false c.if-s-end-ne27.true
+pub returns-then-from-ne-PCREL_SDATA4 : goal.returns-then-from-ne-PCREL_SDATA4
+returns-then-from-ne-PCREL_SDATA4 c =
+    let j = goal.at.returns-then-from-ne-PCREL_SDATA4 c in
+    letters_other c.args.s.now c.args.word c.args.p (skipped j.Joined-p) (encoded j.Joined-p-2 (skipped j.Joined-p)) c.if-s-end.false (rw c.from.ensures at c.if-from-ne-PCREL_SDATA4.true)
 
 pub returns : goal.returns
 returns c =
     let j = goal.at.returns c in
-    letters_there c.args.s.now c.args.word c.args.p (skipped j.Joined-p) (encoded j.Joined-p-2 (skipped j.Joined-p)) c.if-s-end.false c.if-s-end-ne27.false
+    letters_there c.args.s.now c.args.word c.args.p (skipped j.Joined-p) (encoded j.Joined-p-2 (skipped j.Joined-p)) c.if-s-end.false (rw c.from.ensures at c.if-from-ne-PCREL_SDATA4.false)

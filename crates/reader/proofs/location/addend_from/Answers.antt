@@ -1,15 +1,22 @@
 -- `reader::location::addend_from` meets its contract.
-use Rattle.reader.proofs.Seeking.{search_met, search_turn, search_ended}
+use Rattle.std.proofs.Common.{◌∙◌, arith, rules, tests}
+use Rattle.reader.proofs.Seeking.{addend_none, addend_inside, addend_found}
 use Rattle.reader.proofs.location.addend_from.Goals as goal
 
-pub loop-i-init : goal.loop-i-init
-loop-i-init c = c.requires
-
-pub returns-then-relocs-i : goal.returns-then-relocs-i
-returns-then-relocs-i c = search_met c.loop-i.invariant c.loop-i-test.true c.if-relocs-i.true
-
-pub loop-i-preserved : goal.loop-i-preserved
-loop-i-preserved c = search_turn c.loop-i.invariant c.loop-i-test.true c.if-relocs-i.false
+pub returns-in_err-i : goal.returns-in_err-i
+returns-in_err-i c = c.from_residual.ensures ∙ addend_none c.args.relocs.now c.args.place c.args.from c.find.new.self c.find.result (λ i b q k. search (rules, tests)) c.requires c.find.ensures.ran c.in_err-i.was
 
 pub returns : goal.returns
-returns c = search_ended c.loop-i.invariant c.loop-i-test.false
+returns c = addend_found c.args.relocs.now c.args.place c.args.from c.find.new.self c.find.result (λ i b q k. search (rules, tests)) c.requires c.find.ensures.ran c.in_ok-i.was
+
+pub overflow_mul-result : goal.overflow_mul-result
+overflow_mul-result c = omega (arith, addend_inside c.args.relocs.now c.args.place c.args.from c.find.new.self c.find.result (λ i b q k. search (rules, tests)) c.requires c.find.ensures.ran c.in_ok-i.was)
+
+pub overflow_add-result : goal.overflow_add-result
+overflow_add-result c = omega (arith, addend_inside c.args.relocs.now c.args.place c.args.from c.find.new.self c.find.result (λ i b q k. search (rules, tests)) c.requires c.find.ensures.ran c.in_ok-i.was)
+
+pub offset_bounds-relocs-i : goal.offset_bounds-relocs-i
+offset_bounds-relocs-i c = omega (arith, addend_inside c.args.relocs.now c.args.place c.args.from c.find.new.self c.find.result (λ i b q k. search (rules, tests)) c.requires c.find.ensures.ran c.in_ok-i.was)
+
+pub bounds-relocs-i : goal.bounds-relocs-i
+bounds-relocs-i c = omega (arith, addend_inside c.args.relocs.now c.args.place c.args.from c.find.new.self c.find.result (λ i b q k. search (rules, tests)) c.requires c.find.ensures.ran c.in_ok-i.was)

@@ -1,16 +1,19 @@
 -- `reads::index::skipped` meets its contract.
-use Rattle.std.proofs.Common.{◌≡◌, ◌/◌, length, arith}
-use Rattle.reads.proofs.Indexing.{skipped_one}
+use Rattle.std.proofs.Common.{ℕ, ◌*◌, ◌/◌, ◌<◌, ◌≤◌, length, get_or, MatchOption, rules}
+use borrow.Author.Tests.{tests}
+use Rattle.std.proofs.lemmas.Iterator.{first_from_Range}
+use Rattle.reads.proofs.Indexing.{skipped_to}
 use Rattle.reads.proofs.index.skipped.Goals as goal
+use Rattle.reads.proofs.index.skipped.Goals.{After-find}
 
-pub returns-then-place-relocs : goal.returns-then-place-relocs
-returns-then-place-relocs c = c.loop-i.invariant
-
-pub loop-i-preserved : goal.loop-i-preserved
-loop-i-preserved c = skipped_one _ c.loop-i.invariant c.loop-i-test.true (omega (arith, c.if-place-relocs.false))
+-- what `find` found
+seen : (c : After-find)
+    → let xs = c.args.section.now.relocations.now in
+    MatchOption c.find.result ((k : ℕ) → c.args.from ≤ k → k < length xs / 5 → get_or xs (5 * k) 0 < c.args.place)
+    (λ i. (c.args.from ≤ i) × (i < length xs / 5) × (c.args.place ≤ get_or xs (5 * i) 0) × ((k : ℕ) → c.args.from ≤ k → k < i → get_or xs (5 * k) 0 < c.args.place))
+seen c =
+    let xs = c.args.section.now.relocations.now in
+    first_from_Range _ _ _ c.find.result (λ k. c.args.place ≤ get_or xs (5 * k) 0) (λ k. get_or xs (5 * k) 0 < c.args.place) c.find.ensures.ran (λ x q k. search (rules, tests)) (λ x q k. search (rules, tests))
 
 pub returns : goal.returns
-returns c =
-    let k = c.loop-i.invariant in
-    let e : c.loop-i.i ≡ length c.args.section.now.relocations.now / 5 = omega (arith, (k.searching c.args.place (omega arith)).inside) in
-    rw e at k
+returns c = rw c.unwrap_or.ensures (skipped_to c.args.section.now.relocations.now c.requires c.find.result (seen (goal.at.returns c).After-find))

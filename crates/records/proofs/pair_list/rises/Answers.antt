@@ -1,16 +1,16 @@
 -- `records::pair_list::rises` meets its contract.
-use Rattle.rows.proofs.WholeNumbers.{never}
-use Rattle.records.proofs.PairOrder.{start_climb, turn_climb, ended_climb}
+use mathlib.Core.Path.{refl, sym, ◌∙◌}
+use Prim.Native.Nat.{◌-◌}
+use borrow.Author.Rules.{rules}
+use borrow.Author.Tests.{tests}
+use Rattle.std.proofs.lemmas.Iterator.{YieldsList-from_range}
+use Rattle.std.proofs.lemmas.Iterator.Search.{all_from_yields_List}
+use Rattle.format.specs.Lists.{pair_stride, count}
+use Rattle.records.proofs.PairOrder.{climbs, risen}
 use Rattle.records.proofs.pair_list.rises.Goals as goal
 
-pub loop-i-init : goal.loop-i-init
-loop-i-init c = start_climb _ _
-
-pub returns-then-place_of : goal.returns-then-place_of
-returns-then-place_of c = λ p. never p
-
-pub loop-i-preserved : goal.loop-i-preserved
-loop-i-preserved c = turn_climb c.loop-i.invariant c.place_of-in-loop-i.ensures c.place_of.ensures c.if-place_of.false
-
 pub returns : goal.returns
-returns c = λ p. ended_climb c.loop-i.invariant c.loop-i-test.false
+returns c = λ p.
+    let n = count pair_stride c.args.pairs.now in
+    risen c.args.pairs.now n
+    (sym (all_from_yields_List (climbs c.args.pairs.now) _ _ _ c.all.ensures.ran (YieldsList-from_range _ _ (n - 1) refl refl) (λ i b q k. search (rules, tests))) ∙ p)

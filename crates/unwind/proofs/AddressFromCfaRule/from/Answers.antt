@@ -13,4 +13,4 @@ pub returns-in-Register : goal.returns-in-Register
 unfolding cfa_numbers
 returns-in-Register c =
     let e = passed c.in-Register.z (omega (arith, c.in-Register.known_told-1-own.given)) in
-    rw (c.in-Register.is, c.from.ensures, rw e at c.bits.ensures) refl
+    rw (c.in-Register.is, c.from.ensures, rw e at c.cast_unsigned.ensures) refl

@@ -17,7 +17,7 @@ pub returns-in-Saved : goal.returns-in-Saved
 unfolding rule_numbers
 returns-in-Saved c =
     let e = passed c.in-Saved.z (omega (arith, c.in-Saved.known_told-1-own.given)) in
-    rw (c.in-Saved.is, rw e at c.bits.ensures) refl
+    rw (c.in-Saved.is, rw e at c.cast_unsigned.ensures) refl
 
 pub returns-in-SameValue : goal.returns-in-SameValue
 unfolding rule_numbers

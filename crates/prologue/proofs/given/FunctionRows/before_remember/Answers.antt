@@ -12,6 +12,6 @@ use Rattle.prologue.proofs.given.FunctionRows.before_remember.Goals as goal
 
 pub returns : goal.returns
 returns c =
-    let rows = c.args.self.now.list.now in
+    let rows = c.args.self.now.rows.now in
     let h = first_from_Range _ _ _ c.find.result (λ k. eqb (kind_of (row_at rows k).1) 6 ≡ true) (λ k. eqb (kind_of (row_at rows k).1) 6 ≡ false) c.find.ensures.ran (λ x q k. search (rules, tests)) (λ x q k. search (rules, tests)) in
-    rw c.unwrap_or.ensures (first_is rows c.args.self.now.at c.args.self.now.end c.find.result c.args.self.now.order h)
+    rw (c.unwrap_or.ensures, c.len-n.ensures) (rw c.len-n.ensures at (first_is rows c.len-n.result c.find.result h))

@@ -1,4 +1,5 @@
 -- `given::FunctionRows::joins` meets its contract.
+use Rattle.prologue.specs.Given.{rows_in}
 use mathlib.Core.Path.{sym, ◌∙◌}
 use Prim.Native.Nat.{◌+◌}
 use native.Mathlib.Omega.{arith}
@@ -6,8 +7,8 @@ use borrow.Author.Tests.{le-ltb}
 use Rattle.prologue.proofs.Neighbours.{joins_last, reads_joins}
 use Rattle.prologue.proofs.given.FunctionRows.joins.Goals as goal
 
-pub returns-then-i-self : goal.returns-then-i-self
-returns-then-i-self c = reads_joins _ c.args.self.now.end c.args.i c.if-i-self.true c.offset_at.ensures c.offset_at-then-i-self.ensures
+pub returns-then-i-len : goal.returns-then-i-len
+returns-then-i-len c = reads_joins _ (rows_in c.args.self.now) c.args.i (rw c.len.ensures at c.if-i-len.true) c.offset_at.ensures c.offset_at-then-i-len.ensures
 
-pub returns-else-i-self : goal.returns-else-i-self
-returns-else-i-self c = le-ltb (c.args.i + 1) c.args.self.now.end c.if-i-self.false ∙ sym (joins_last _ c.args.i c.args.self.now.end (omega arith))
+pub returns-else-i-len : goal.returns-else-i-len
+returns-else-i-len c = le-ltb (c.args.i + 1) c.len.result c.if-i-len.false ∙ sym (joins_last _ c.args.i (rows_in c.args.self.now) (omega (arith, c.len.ensures)))

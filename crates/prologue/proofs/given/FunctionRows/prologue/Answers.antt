@@ -1,33 +1,28 @@
 -- `given::FunctionRows::prologue` meets its contract.
-use Prim.Native.Nat.{◌-◌}
 use native.Mathlib.Omega.{arith}
 use Rattle.std.proofs.lemmas.Result.{err_from_is_err_and}
 use Rattle.rows.proofs.Signs.{passed}
 use Rattle.prologue.proofs.Counting.{not_true, not_false}
-use Rattle.prologue.proofs.Rows.{leading, within}
 use Rattle.prologue.proofs.Told.{ok_of, err_of}
 use Rattle.prologue.proofs.Answers.{shaped, unnamed, stopped}
 use Rattle.prologue.proofs.given.FunctionRows.prologue.Goals as goal
 
-pub invariant_of-leading : goal.invariant_of-leading
-invariant_of-leading c =
-    let e = c.before_remember-end.ensures in
-    record { order = e.0; ready = leading c.args.self.now.ready e.1 }
-
 pub returns-in_err-w : goal.returns-in_err-w
 returns-in_err-w c =
-    let e = c.before_remember-end.ensures in
     let p = err_from_is_err_and c.from_residual.result c.from_residual.ensures.1 in
-    rw (p.1, p.2) (stopped c.args.m.now.machine.now _ c.args.self.now.at (c.args.self.now.end - c.args.self.now.at) c.before_remember-end.result e.0 (within c.args.self.now.order e.1) e.2 _ (err_of _ c.in_err-w.was c.read_rows.ensures.0))
+    rw (p.1, p.2) (stopped c.args.m.now.machine.now _ _ c.leading-leading.ensures _ (err_of _ c.in_err-w.was c.read_rows.ensures.0))
 
 pub returns-then-not-w : goal.returns-then-not-w
 returns-then-not-w c =
-    let e = c.before_remember-end.ensures in
-    unnamed c.args.m.now.machine.now _ c.args.self.now.at (c.args.self.now.end - c.args.self.now.at) c.before_remember-end.result e.0 (within c.args.self.now.order e.1) e.2 (ok_of _ c.in_ok-w.was c.read_rows.ensures.0) (not_true _ c.if-not-w.true)
+    unnamed c.args.m.now.machine.now _ _ c.leading-leading.ensures (ok_of _ c.in_ok-w.was c.read_rows.ensures.0) (not_true _ c.if-not-w.true)
+
+pub invariant_of-result : goal.invariant_of-result
+invariant_of-result c =
+    let h = rw c.in_ok-w.was at c.read_rows.ensures in
+    record { short = rw (passed c.in_ok-w.w.below (omega (arith, h.1))) h.1 }
 
 pub returns : goal.returns
 returns c =
-    let e = c.before_remember-end.ensures in
     let h = rw c.in_ok-w.was at c.read_rows.ensures in
     rw (passed c.in_ok-w.w.below (omega (arith, h.1)))
-    (shaped c.args.m.now.machine.now _ c.args.self.now.at (c.args.self.now.end - c.args.self.now.at) c.before_remember-end.result e.0 (within c.args.self.now.order e.1) e.2 (ok_of _ c.in_ok-w.was c.read_rows.ensures.0) h.1 (not_false _ c.if-not-w.false))
+    (shaped c.args.m.now.machine.now _ _ c.leading-leading.ensures (ok_of _ c.in_ok-w.was c.read_rows.ensures.0) h.1 (not_false _ c.if-not-w.false))

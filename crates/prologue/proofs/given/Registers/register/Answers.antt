@@ -6,13 +6,13 @@ pub returns-then-reg-ge64 : goal.returns-then-reg-ge64
 returns-then-reg-ge64 c = past_map c.args.self.now.machine.now c.args.reg c.args.self.now.registers c.if-reg-ge64.true
 
 pub returns-then-n-lt16 : goal.returns-then-n-lt16
-returns-then-n-lt16 c = low_integer c.args.self.now.machine.now c.args.reg c.args.self.now.registers c.if-reg-ge64.false c.wide-n.ensures.0 c.if-n-lt16.true
+returns-then-n-lt16 c = low_integer c.args.self.now.machine.now c.args.reg c.args.self.now.registers c.if-reg-ge64.false c.from-n.ensures c.if-n-lt16.true
 
 pub returns-then-n-lt128 : goal.returns-then-n-lt128
-returns-then-n-lt128 c = high_integer c.args.self.now.machine.now c.args.reg c.args.self.now.registers c.if-reg-ge64.false c.wide-n.ensures.0 c.if-n-lt16.false c.if-n-lt128.true
+returns-then-n-lt128 c = high_integer c.args.self.now.machine.now c.args.reg c.args.self.now.registers c.if-reg-ge64.false c.from-n.ensures c.if-n-lt16.false c.if-n-lt128.true
 
 pub returns-then-n-lt144 : goal.returns-then-n-lt144
-returns-then-n-lt144 c = low_vector c.args.self.now.machine.now c.args.reg c.args.self.now.registers c.if-reg-ge64.false c.wide-n.ensures.0 c.if-n-lt128.false c.if-n-lt144.true
+returns-then-n-lt144 c = low_vector c.args.self.now.machine.now c.args.reg c.args.self.now.registers c.if-reg-ge64.false c.from-n.ensures c.if-n-lt128.false c.if-n-lt144.true
 
 pub returns : goal.returns
-returns c = high_vector c.args.self.now.machine.now c.args.reg c.args.self.now.registers c.if-reg-ge64.false c.wide-n.ensures.0 c.if-n-lt144.false
+returns c = high_vector c.args.self.now.machine.now c.args.reg c.args.self.now.registers c.if-reg-ge64.false c.from-n.ensures c.if-n-lt144.false

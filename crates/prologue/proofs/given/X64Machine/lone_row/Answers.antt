@@ -14,7 +14,7 @@ pub returns-in-DefCfa : goal.returns-in-DefCfa
 unfolding lone_in
 returns-in-DefCfa c =
     let e = passed c.in-DefCfa.z (omega (arith, c.in-DefCfa.known_told-1-own.given)) in
-    rw c.in-DefCfa.is (rw e at c.frame_set.ensures)
+    rw c.in-DefCfa.is (rw (e, c.from.ensures) at c.frame_set.ensures)
 
 pub returns-in-DefCfaOffset : goal.returns-in-DefCfaOffset
 unfolding lone_in added is_push known
@@ -23,13 +23,13 @@ returns-in-DefCfaOffset c =
     rw c.in-DefCfaOffset.is (ap Ok (rw e at c.stepped.ensures))
 
 pub returns-in-DefCfaRegister : goal.returns-in-DefCfaRegister
-returns-in-DefCfaRegister c = rw c.in-DefCfaRegister.is c.frame_early.ensures
+returns-in-DefCfaRegister c = rw c.in-DefCfaRegister.is (rw c.from-in-DefCfaRegister.ensures at c.frame_early.ensures)
 
 pub returns-in-Offset : goal.returns-in-Offset
 unfolding lone_in added is_push known
 returns-in-Offset c =
     let e = passed c.args.w.below (omega (arith, c.struct_told-1.given)) in
-    rw c.in-Offset.is (ap Ok (c.stepped-in-Offset.ensures ∙ rw (e, c.knows-known.ensures, c.registers.ensures)))
+    rw c.in-Offset.is (ap Ok (c.stepped-in-Offset.ensures ∙ rw (e, c.knows-known.ensures, c.registers.ensures, c.from-in-Offset.ensures)))
 
 pub returns-in_default : goal.returns-in_default
 returns-in_default c =

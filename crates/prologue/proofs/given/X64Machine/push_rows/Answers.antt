@@ -15,4 +15,4 @@ pub returns : goal.returns
 returns c =
     let e = passed c.in-DefCfaOffset.z (omega (arith, c.in-DefCfaOffset.known_told-1-own.given)) in
     let f = passed c.in-Offset.y (omega (arith, c.in-Offset.known_told-in-Offset-1-own.given)) in
-    rw (c.in-DefCfaOffset.is, c.in-Offset.is) (rw (e, f) at c.pushed.ensures)
+    rw (c.in-DefCfaOffset.is, c.in-Offset.is) (rw (e, f, c.from.ensures) at c.pushed.ensures)

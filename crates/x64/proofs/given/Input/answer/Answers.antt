@@ -7,8 +7,8 @@ use Rattle.x64.proofs.Writing.{agreed}
 use mathlib.Core.Path.{sym, ap, ◌∙◌}
 use Rattle.x64.proofs.given.Input.answer.Goals as goal
 
-pub write-requires : goal.write-requires
-write-requires c = agreed _ _ _ _ (sym c.asks.ensures ∙ ap numbered_at c.in_ok-asks.was)
+pub invariant_of-cleared : goal.invariant_of-cleared
+invariant_of-cleared c = record { agreed = agreed _ _ _ _ (sym c.asks.ensures ∙ ap numbered_at c.in_ok-asks.was) }
 
 pub returns-in_err-asks : goal.returns-in_err-asks
 returns-in_err-asks c =

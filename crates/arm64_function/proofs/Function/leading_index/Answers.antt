@@ -1,9 +1,0 @@
--- `Function::leading_index` meets its contract.
-use Rattle.arm64_function.proofs.Indexes.{index_leading, leading_low}
-use Rattle.arm64_function.proofs.Function.leading_index.Goals as goal
-
-pub overflow_sub-result : goal.overflow_sub-result
-overflow_sub-result c = leading_low c.args.self.now.epilogues.now c.args.self.now.codes.now c.args.self.now.parts c.args.i c.requires.1 c.prologue_size.ensures.0 c.epilogue_size.ensures.0
-
-pub returns : goal.returns
-returns c = index_leading c.args.self.now.epilogues.now c.args.self.now.codes.now c.args.self.now.parts c.args.i c.requires.1 c.prologue_size.ensures.0 c.epilogue_size.ensures.0

@@ -1,9 +1,0 @@
-use mathlib.Core.Path.{◌≡◌}
-use Rattle.arm64_simple.specs.Saves.{saves}
-use Rattle.arm64_simple.specs.Written.{saved_in}
-use Rattle.arm64_function.specs.Own.{epilogue_at}
-use Rattle.arm64_function.proofs.Own.{Searching}
-use Rattle.arm64_function.proofs.Function.nearest.Given as goal
-
-abbrev pub invariant-loop-j : goal.invariant-loop-j
-invariant-loop-j l = (saved_in l.run ≡ saves l.self.codes.now (epilogue_at l.self.epilogues.now l.i)) × Searching l.self.epilogues.now l.self.codes.now l.self.parts l.i l.j

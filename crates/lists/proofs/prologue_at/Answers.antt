@@ -1,6 +1,0 @@
--- `lists::prologue_at` meets its contract.
-use native.Mathlib.Nat.{add-zero}
-use Rattle.lists.proofs.prologue_at.Goals as goal
-
-pub returns : goal.returns
-returns c = rw add-zero

@@ -1,9 +1,0 @@
-use mathlib.Core.Path.{◌≡◌}
-use lib.ListN.{take}
-use Rattle.struct_entries.specs.Structs.{function_numbers}
-use Rattle.struct_entries.specs.Packed.{stored_all}
-use Rattle.struct_entries.proofs.put_functions.Given as goal
-
--- the first i structs are stored
-abbrev pub invariant-loop-i : goal.invariant-loop-i
-invariant-loop-i l = l.numbers ≡ stored_all function_numbers l.initial.numbers l.at (take l.i l.functions)
