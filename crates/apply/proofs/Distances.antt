@@ -4,21 +4,14 @@ use mathlib.Core.Option.{some}
 use native.Mathlib.Nat.{mul-add-mod_self_right, mul-add-div_right, div-eq_of_lt}
 use Rattle.format.specs.Put.{put}
 use Rattle.format.specs.Leb.{little}
-use Rattle.format.proofs.PutLaws.{length-put}
+use Rattle.format.proofs.PutLaws.{length-put, put_before}
 use Rattle.apply.specs.declared.Width.{Width}
 use Rattle.apply.specs.declared.Width.TheVariants.{W6, W8, W16, W32}
 use Rattle.apply.specs.Kinds.{bits_of, bytes_of}
 use Rattle.apply.specs.Fields.{low_of, number_at, field_at, in_field, set_in, sub_in}
 use Rattle.apply.proofs.Wrap.{low_lt, wraps}
 
--- a store leaves what lies in front of it
-pub put_before : (xs : List ℕ) (p q : ℕ) (bs : List ℕ) → q < p → get_or (put xs p bs) q 0 ≡ get_or xs q 0
-unfolding put
-put_before xs p q [] h = refl
-put_before xs p q (b ∷ bs) h =
-    put_before (set xs p b) (p + 1) q bs (omega arith) ∙ get_or-set_other xs p q b 0 (λ (e : q ≡ p). omega arith)
-
--- and what lies behind it
+-- a store leaves what lies behind it
 pub put-behind : (xs : List ℕ) (p q : ℕ) (bs : List ℕ) → p + length bs ≤ q → get_or (put xs p bs) q 0 ≡ get_or xs q 0
 unfolding put
 put-behind xs p q [] h = refl
@@ -32,7 +25,7 @@ back zero xs p x h l = omega (arith, l)
 back (suc n) xs p x h l =
     let t = little n (x / 256) in
     let e : get_or (put (set xs p (x % 256)) (p + 1) t) p 0 ≡ x % 256 =
-    put_before (set xs p (x % 256)) (p + 1) p t (omega arith) ∙ get_or-set_same xs p (x % 256) 0 (omega arith) in
+    put_before (set xs p (x % 256)) (p + 1) t p (omega arith) ∙ get_or-set_same xs p (x % 256) 0 (omega arith) in
     let i : number_at (put (set xs p (x % 256)) (p + 1) t) (p + 1) n ≡ x / 256 =
     back n (set xs p (x % 256)) (p + 1) (x / 256) (omega (arith, length-set xs p (x % 256))) (omega (arith, l, pow-suc 256 n)) in
     omega (arith, e, i)

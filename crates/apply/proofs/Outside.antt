@@ -6,6 +6,7 @@ use Rattle.format.specs.Leb.{little}
 use Rattle.format.specs.Lists.{Relocation}
 use Rattle.format.proofs.Each.{Each}
 use Rattle.format.proofs.LebBack.{little-length}
+use Rattle.format.proofs.PutLaws.{put_before}
 use Rattle.apply.specs.declared.Width.{Width}
 use Rattle.apply.specs.declared.Kind.{Kind}
 use Rattle.apply.specs.declared.Kind.TheVariants.{Data, Address, SumPlus, SumMinus, Image, Set, Sub, Unknown}
@@ -14,7 +15,7 @@ use Rattle.apply.specs.Fields.{in_field, set_in, sub_in, whole_in}
 use Rattle.apply.specs.Values.{Layout, sum_of, value_as, store_as, store_of}
 use Rattle.apply.specs.Apply.{front, stores}
 use Rattle.apply.proofs.Tests.{step_size, step_size_2}
-use Rattle.apply.proofs.Distances.{put_before, put-behind}
+use Rattle.apply.proofs.Distances.{put-behind}
 
 -- q lies in none of the n bytes from p on
 abbrev pub Off : (q p n : ℕ) → Type 0
@@ -23,7 +24,7 @@ Off q p n = (q < p) ⊎ (p + n ≤ q)
 put_off : (n x : ℕ) (bs : List ℕ) (p q : ℕ) → Off q p n → get_or (put bs p (little n x)) q 0 ≡ get_or bs q 0
 put_off n x bs p q o =
     let e = little-length n x in
-    ⊎_elim (λ h. put_before bs p q (little n x) h) (λ h. put-behind bs p q (little n x) (omega (arith, e, h))) o
+    ⊎_elim (λ h. put_before bs p (little n x) q h) (λ h. put-behind bs p q (little n x) (omega (arith, e, h))) o
 
 in_off : (w : Width) (bs : List ℕ) (p v q : ℕ) → Off q p (bytes_of w) → get_or (in_field w bs p v) q 0 ≡ get_or bs q 0
 unfolding in_field

@@ -18,8 +18,9 @@ use Rattle.format.proofs.Choice.{pick_yes}
 use Rattle.format.proofs.LebBack.{little_back, little-length, uleb_back, sleb_back}
 use Rattle.format.proofs.FieldsBack.{word_small, pointer_size_lem, many_back, counted_back, second_back}
 use Rattle.format.proofs.EntryBack.{padded_behind}
-use Rattle.format.proofs.HeaderBack.{KindOk, HeaderOk, letters_for, letters_back, pointer_in, lsda_back, signal_kept, factor_fits, same_self, register_back, id_small, header_back, header_second, header_short}
+use Rattle.format.proofs.HeaderBack.{KindOk, HeaderOk, letters_for, letters_back, pointer_in, lsda_back, signal_kept, factor_fits, same_self, id_small, header_back, header_second, header_short}
 use Rattle.format.proofs.Parts.{header_body, header_entry_lem}
+use Rattle.format.proofs.RowBack.{register_back}
 use Rattle.apply.specs.Values.{Layout}
 use Rattle.apply_back.proofs.Fills.{Fills, fills_none, fills_in}
 use Rattle.apply_back.proofs.Blanks.{Blank, blank_in, kind_blank}

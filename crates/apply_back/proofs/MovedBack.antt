@@ -7,7 +7,7 @@ use Prim.Native.Nat.{ℕ, zero, suc, ◌+◌, ◌-◌, ◌^◌, ◌<◌}
 use native.Mathlib.Omega.{arith}
 use lib.Dec.{T, leb, ltb}
 use lib.ListN.{length, get_elem?}
-use mir.Facts.{yes_and}
+use mir.Facts.{yes_and, T_not-not}
 use Rattle.format.specs.Prelude.{pick, Result, good, bad, all}
 use Rattle.format.specs.declared.Machine.{Machine}
 use Rattle.format.specs.declared.Row.{Row}
@@ -134,10 +134,6 @@ unfolding pick
 picked true n x bs e = let z : ◌≡◌ {A = ℕ} 0 1 = cc in absurd (omega arith)
 picked false n x bs e = (tt, e)
 
-twice : (b : Bool) → T (not (not b)) → T b
-twice true t = tt
-twice false t = absurd t
-
 applied : (bytes relocations addresses : List ℕ) (section image room : ℕ) (bs : List ℕ) → apply bytes relocations addresses section image room ≡ good bs
     → let l : Layout = layout_of addresses section image in
     Passes l (length bytes) (relocations_of relocations) × (bs ≡ stores l bytes (relocations_of relocations))
@@ -150,7 +146,7 @@ applied bytes relocations addresses section image room bs e =
     let c = picked (not (everywhere (near l.symbols) none rs)) 80 _ bs b.1 in
     let same : good (stores l bytes rs) ≡ good bs = c.1 in
     let same' : stores l bytes rs ≡ bs = cc in
-    (record { before = none; sound_ones = twice (everywhere (sound l (length bytes)) none rs) b.0; near_ones = twice (everywhere (near l.symbols) none rs) c.0 }, sym same')
+    (record { before = none; sound_ones = T_not-not (everywhere (sound l (length bytes)) none rs) b.0; near_ones = T_not-not (everywhere (near l.symbols) none rs) c.0 }, sym same')
 
 -- For every list that is accepted as eh_frame and put in place, whatever the addresses: for every function that passes the row check, with
 -- relaxing labels or without, at every offset below its new length and for every register, the reader gives the rules of the leading rows

@@ -24,12 +24,13 @@ use Rattle.format.proofs.FieldsBack.{word_small}
 use Rattle.format.proofs.HeaderBack.{HeaderOk, pointer_in, header_back}
 use Rattle.format.proofs.RecordBack.{pointer_within, blank_small}
 use Rattle.format.proofs.RowsRun.{act_all, while}
-use Rattle.format.proofs.WalkBack.{onward_ext, rows_back}
+use Rattle.format.proofs.WalkBack.{rows_back}
 use Rattle.format.proofs.Fits.{MachineFits, FunctionFits, AllFit, Bounded}
 use Rattle.format.proofs.Leading.{leading_ok}
 use Rattle.format.proofs.Parts.{header_body, Spot, cie_of, spot_of, place_of, next_at, next_sites, next_seen}
 use Rattle.format.proofs.SectionTiles.{header_entry, front_entries, record_entry, entries_of, Holds, FieldsHold, fields_hold}
 use Rattle.format.proofs.SectionFinds.{header_entry_is, record_entry_is, spot_at, record_holds, header_found, header_by_distance}
+use Rattle.format.proofs.Onward.{onward_ext}
 use Rattle.apply.specs.Values.{Layout}
 use Rattle.apply_back.specs.Moved.{new_length, moved_rows, pairs_of}
 use Rattle.apply_back.proofs.StepsBack.{stepped_with, StepsHold, moved_back}

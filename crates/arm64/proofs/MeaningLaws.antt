@@ -1,34 +1,28 @@
 -- What `simplify` changes means the same: code by code the effects are those of the given codes.
 use mathlib.Core.Path.{◌≡◌, refl, subst, sym, ap, ◌∙◌}
-use mathlib.Core.Bool.{Bool, true, false, not, ◌&&◌, ◌||◌}
+use mathlib.Core.Bool.{Bool, true, false, ◌&&◌, ◌||◌, false≢true}
 use mathlib.Core.Option.{Option, none, some}
 use mathlib.Core.List.{List, [], ◌∷◌}
 use Prim.Native.Nat.{ℕ, ◌+◌, ◌<◌}
 use native.Mathlib.Omega.{arith}
-use lib.Dec.{T, leb, ltb, eqb}
+use lib.Dec.{leb, ltb, eqb}
 use borrow.Author.Tests.{eqb-true, eq-eqb, ne_eqb, ltb-true}
 use Rattle.format.specs.Prelude.{pick}
 use Rattle.arm64.specs.declared.Code.{Code}
 use Rattle.arm64.specs.Codes.{code, k_regp, k_regp_x, k_r19_r20_x, k_fregp, k_fregp_x, k_fplr, k_fplr_x, k_set_fp, k_add_fp, k_save_next, fp}
 use Rattle.arm64.specs.Meaning.{Pair, only, save_two, save_pair, save_next, pair_step, integer_step, vector_step, frame_step, or_step, step_of, pair_of, effect_of, effects, prologue_means}
 use Rattle.arm64.specs.Runs.{same_code, shorter, pair_in, has_next, next_pair, resolved, next_or, simple, pair_behind, simplify, no_pair}
-
-pub no_yes : false ≡ true → ⊥
-no_yes e = subst (λ (x : Bool). T (not x)) e tt
-
-pub both_true : (a b : Bool) → a && b ≡ true → (a ≡ true) × (b ≡ true)
-both_true true b e = (refl, e)
-both_true false b e = absurd (no_yes e)
+use Rattle.std.proofs.lemmas.Bool.{and_parts}
 
 pub or-false : (a b : Bool) → a ≡ false → a || b ≡ true → b ≡ true
-or-false true b n e = absurd (no_yes (sym n))
+or-false true b n e = absurd (false≢true (sym n))
 or-false false b n e = e
 
 pub equal : (a b : Code) → same_code a b ≡ true → a ≡ b
 unfolding same_code
 equal a b e =
-    let p = both_true (eqb a.kind b.kind && eqb a.register b.register) (eqb a.offset b.offset) e in
-    let q = both_true (eqb a.kind b.kind) (eqb a.register b.register) p.0 in
+    let p = and_parts (eqb a.kind b.kind && eqb a.register b.register) (eqb a.offset b.offset) e in
+    let q = and_parts (eqb a.kind b.kind) (eqb a.register b.register) p.0 in
     ap (λ (k : ℕ). code k a.register a.offset) (eqb-true a.kind b.kind q.0)
     ∙ ap (λ (r : ℕ). code b.kind r a.offset) (eqb-true a.register b.register q.1)
     ∙ ap (λ (z : ℕ). code b.kind b.register z) (eqb-true a.offset b.offset p.1)
@@ -70,23 +64,23 @@ module _ (p : Option Pair) where
       let P : Code → Type 0 = λ d. step_of p d ≡ step_of p c in
       by_pick P (eqb c.kind k_regp && eqb c.register fp) _ _
       (λ t.
-      let q = both_true (eqb c.kind k_regp) (eqb c.register fp) t in
+      let q = and_parts (eqb c.kind k_regp) (eqb c.register fp) t in
       frame_pair c.offset ∙ ap (step_of p) (sym (of_both c (eqb-true c.kind k_regp q.0) (eqb-true c.register fp q.1))))
       λ n1.
       by_pick P (eqb c.kind k_regp_x && eqb c.register fp) _ _
       (λ t.
-      let q = both_true (eqb c.kind k_regp_x) (eqb c.register fp) t in
+      let q = and_parts (eqb c.kind k_regp_x) (eqb c.register fp) t in
       frame_push c.offset ∙ ap (step_of p) (sym (of_both c (eqb-true c.kind k_regp_x q.0) (eqb-true c.register fp q.1))))
       λ n2.
       by_pick P (eqb c.kind k_regp_x && eqb c.register 19 && leb c.offset 248) _ _
       (λ t.
-      let o = both_true (eqb c.kind k_regp_x && eqb c.register 19) (leb c.offset 248) t in
-      let q = both_true (eqb c.kind k_regp_x) (eqb c.register 19) o.0 in
+      let o = and_parts (eqb c.kind k_regp_x && eqb c.register 19) (leb c.offset 248) t in
+      let q = and_parts (eqb c.kind k_regp_x) (eqb c.register 19) o.0 in
       first_push c.offset ∙ ap (step_of p) (sym (of_both c (eqb-true c.kind k_regp_x q.0) (eqb-true c.register 19 q.1))))
       λ n3.
       by_pick P (eqb c.kind k_add_fp && eqb c.offset 0) _ _
       (λ t.
-      let q = both_true (eqb c.kind k_add_fp) (eqb c.offset 0) t in
+      let q = and_parts (eqb c.kind k_add_fp) (eqb c.offset 0) t in
       no_offset c.register
       ∙ ap (step_of p)
       (ap (λ (z : ℕ). code k_add_fp c.register z) (sym (eqb-true c.offset 0 q.1)) ∙ sym (of_kind c (eqb-true c.kind k_add_fp q.0))))
@@ -100,7 +94,7 @@ Same b p = has_next b ≡ true → p ≡ some (record { vector = eqb b.kind k_fr
 
 pub no_next : (p : Option Pair) → Same no_pair p
 unfolding has_next
-no_next p e = absurd (no_yes e)
+no_next p e = absurd (false≢true e)
 
 -- the step of a pair that is no frame record
 pair_means : (p : Option Pair) (r z : ℕ) → (r ≡ fp → ⊥) → step_of p (code k_regp r z) ≡ save_pair false 0 r z
@@ -123,22 +117,22 @@ shorter_frame c =
     by_pick P (eqb c.kind k_regp_x && eqb c.register 19 && leb c.offset 248) _ _ (λ t e f. absurd (omega (arith, e)))
     λ n3.
     by_pick P (eqb c.kind k_add_fp && eqb c.offset 0) _ _ (λ t e f. absurd (omega (arith, e)))
-    λ n4 e f. no_yes (sym n1 ∙ ap (λ t. t && eqb c.register fp) (eq-eqb c.kind k_regp e) ∙ eq-eqb c.register fp f)
+    λ n4 e f. false≢true (sym n1 ∙ ap (λ t. t && eqb c.register fp) (eq-eqb c.kind k_regp e) ∙ eq-eqb c.register fp f)
 
 -- the first test of has_next, and the second
 pub next_kind : (b : Code) → has_next b ≡ true → (eqb b.kind k_regp || eqb b.kind k_fregp) ≡ true
 unfolding has_next
 next_kind b e =
-    (both_true (eqb b.kind k_regp || eqb b.kind k_fregp) (ltb b.register fp)
-    (both_true ((eqb b.kind k_regp || eqb b.kind k_fregp) && ltb b.register fp) (ltb b.offset 1024) e).0).0
+    (and_parts (eqb b.kind k_regp || eqb b.kind k_fregp) (ltb b.register fp)
+    (and_parts ((eqb b.kind k_regp || eqb b.kind k_fregp) && ltb b.register fp) (ltb b.offset 1024) e).0).0
 
 next_frame : (b : Code) → has_next b ≡ true → b.register ≡ fp → ⊥
 unfolding has_next
 next_frame b e f =
     let q : b.register < fp
     = ltb-true b.register fp
-    (both_true (eqb b.kind k_regp || eqb b.kind k_fregp) (ltb b.register fp)
-    (both_true ((eqb b.kind k_regp || eqb b.kind k_fregp) && ltb b.register fp) (ltb b.offset 1024) e).0).1 in
+    (and_parts (eqb b.kind k_regp || eqb b.kind k_fregp) (ltb b.register fp)
+    (and_parts ((eqb b.kind k_regp || eqb b.kind k_fregp) && ltb b.register fp) (ltb b.offset 1024) e).0).1 in
     absurd (omega (arith, q, f))
 
 module _ (b : Code) (p : Option Pair) (s : Same b p) where
@@ -162,7 +156,7 @@ module _ (b : Code) (p : Option Pair) (s : Same b p) where
   next_or_means d n =
       by_pick (λ x. step_of p x ≡ step_of p d) (eqb d.kind k_regp && same_code (next_pair b) d) _ _
       (λ t.
-      let q = both_true (eqb d.kind k_regp) (same_code (next_pair b) d) t in
+      let q = and_parts (eqb d.kind k_regp) (same_code (next_pair b) d) t in
       let k : d.kind ≡ k_regp = eqb-true d.kind k_regp q.0 in next_same d (equal (next_pair b) d q.1) k (n k))
       λ t. refl
 
@@ -249,7 +243,7 @@ module _ (b : Code) (p : Option Pair) (s : Same b p) (c : Code) where
       leaves p c (eqb b.kind k_fregp) 0 (b.register + 2) (b.offset + 16)
       (ap (step_of p) (of_kind c k) ∙ step_16 p c.register c.offset ∙ ap (λ q. step_of q (code k_save_next 0 0)) (s t)
       ∙ next_means (eqb b.kind k_fregp) b.register b.offset))
-      λ n. absurd (no_yes (sym n ∙ next_kind b t))
+      λ n. absurd (false≢true (sym n ∙ next_kind b t))
 
   behind_next : c.kind ≡ k_save_next → Same (pair_in (next_pair b)) (left p c)
   unfolding next_pair

@@ -1,6 +1,6 @@
 -- A packed function read back: the reader answers its length, a prologue and an epilogue that mean what was given, and the epilogue's start.
 use mathlib.Core.Path.{◌≡◌, refl, sym, ap, ◌∙◌}
-use mathlib.Core.Bool.{Bool, true, false, ◌&&◌, ◌||◌}
+use mathlib.Core.Bool.{Bool, true, false, ◌&&◌, ◌||◌, false≢true}
 use mathlib.Core.Option.{none, some}
 use mathlib.Core.List.{List, [], ◌∷◌}
 use Prim.Native.Nat.{ℕ, suc, ◌+◌, ◌-◌, ◌*◌, ◌/◌, ◌%◌, ◌^◌, ◌≤◌, ◌<◌}
@@ -19,8 +19,9 @@ use Rattle.arm64.specs.Reader.{Unwound, epilogue, at_end, unwound, packed_epilog
 use Rattle.arm64.specs.Runs.{no_pair, simple, simplify, resolve, pair_behind, same_codes, leads}
 use Rattle.arm64.specs.Packing.{chain_behind, tally, tallies, nothing_yet, as_fields, candidate, packed_word, fields_hold, stands_for}
 use Rattle.arm64.specs.Writer.{instructions, prologue_run, epilogue_run, index_in, codes_of, ends_with, packed_for}
-use Rattle.arm64.proofs.MeaningLaws.{both_true, no_yes, simplify_means}
+use Rattle.arm64.proofs.MeaningLaws.{simplify_means}
 use Rattle.arm64.proofs.PackingLaws.{equal_all, reverse_twice, reverse-length, packed_prologue_lem, packed_epilogue_lem}
+use Rattle.std.proofs.lemmas.Bool.{and_parts}
 
 -- ---- the word's fields
 
@@ -98,7 +99,7 @@ candidate_counted size ps =
 pick_true : (t x : Bool) → pick t x false ≡ true → t ≡ true
 unfolding pick
 pick_true true x e = refl
-pick_true false x e = absurd (no_yes e)
+pick_true false x e = absurd (false≢true e)
 
 ok_registers : (p : Packed) → packed_ok p ≡ true → p.registers ≤ 10
 unfolding packed_ok
@@ -111,19 +112,19 @@ module _ (size : ℕ) (ps r : List Code) (t : stands_for (candidate size ps) ps 
   firsts : (fields_hold here && packed_ok here) ≡ true
   unfolding stands_for
   firsts =
-      (both_true (fields_hold here && packed_ok here) (same_codes (resolve no_pair ps) (packed_prologue here))
-      (both_true (fields_hold here && packed_ok here && same_codes (resolve no_pair ps) (packed_prologue here))
+      (and_parts (fields_hold here && packed_ok here) (same_codes (resolve no_pair ps) (packed_prologue here))
+      (and_parts (fields_hold here && packed_ok here && same_codes (resolve no_pair ps) (packed_prologue here))
       (same_codes (reverse (resolve no_pair r)) (packed_epilogue here)) t).0).0
 
   pub ok : packed_ok here ≡ true
-  ok = (both_true (fields_hold here) (packed_ok here) firsts).1
+  ok = (and_parts (fields_hold here) (packed_ok here) firsts).1
 
   pub held : Held here
   unfolding fields_hold
   held =
-      let f = (both_true (fields_hold here) (packed_ok here) firsts).0 in
-      let a = both_true (ltb here.length (2 ^ 11) && ltb here.vectors 8) (ltb here.frame (2 ^ 9)) f in
-      let b = both_true (ltb here.length (2 ^ 11)) (ltb here.vectors 8) a.0 in
+      let f = (and_parts (fields_hold here) (packed_ok here) firsts).0 in
+      let a = and_parts (ltb here.length (2 ^ 11) && ltb here.vectors 8) (ltb here.frame (2 ^ 9)) f in
+      let b = and_parts (ltb here.length (2 ^ 11)) (ltb here.vectors 8) a.0 in
       let c = candidate_counted size ps in
       record {
         flag = c.flag;
@@ -139,7 +140,7 @@ module _ (size : ℕ) (ps r : List Code) (t : stands_for (candidate size ps) ps 
   unfolding stands_for
   epilogue_same =
       equal_all _ _
-      (both_true (fields_hold here && packed_ok here && same_codes (resolve no_pair ps) (packed_prologue here))
+      (and_parts (fields_hold here && packed_ok here && same_codes (resolve no_pair ps) (packed_prologue here))
       (same_codes (reverse (resolve no_pair r)) (packed_epilogue here)) t).1
 
 -- ---- lengths
@@ -149,7 +150,7 @@ unfolding resolve
 resolve-length b [] = refl
 resolve-length b (c ∷ cs) = ap suc (resolve-length (pair_behind b c) cs)
 
-simplify-length : (b : Code) (cs : List Code) → length (simplify b cs) ≡ length cs
+pub simplify-length : (b : Code) (cs : List Code) → length (simplify b cs) ≡ length cs
 unfolding simplify
 simplify-length b [] = refl
 simplify-length b (c ∷ cs) = ap suc (simplify-length (pair_behind b (simple b c)) cs)
@@ -201,15 +202,15 @@ module _ (f : Function) (e : Epilogue) (z : f.size % 4 ≡ 0) (y : e.start % 4 �
   parts : (ends_with f e ≡ true) × (stands_for word (prologue_run f) (epilogue_run e) ≡ true)
   unfolding packed_for
   parts =
-      let a = both_true (ends_with f e && leads (epilogue_run e) (prologue_run f)) (stands_for word (prologue_run f) (epilogue_run e)) t in
-      ((both_true (ends_with f e) (leads (epilogue_run e) (prologue_run f)) a.0).0, a.1)
+      let a = and_parts (ends_with f e && leads (epilogue_run e) (prologue_run f)) (stands_for word (prologue_run f) (epilogue_run e)) t in
+      ((and_parts (ends_with f e) (leads (epilogue_run e) (prologue_run f)) a.0).0, a.1)
 
   ends : (f.size - e.start) / 4 ≡ length e.codes + 1
   unfolding ends_with instructions
   ends =
       eqb-true ((f.size - e.start) / 4) (length e.codes + 1)
-      (both_true (eqb ((f.size - e.start) / 4) (length e.codes + 1)) (leb (index_in f e) 31)
-      (both_true (eqb ((f.size - e.start) / 4) (length e.codes + 1) && leb (index_in f e) 31) (leb (length (codes_of f)) 124) parts.0).0).0
+      (and_parts (eqb ((f.size - e.start) / 4) (length e.codes + 1)) (leb (index_in f e) 31)
+      (and_parts (eqb ((f.size - e.start) / 4) (length e.codes + 1) && leb (index_in f e) 31) (leb (length (codes_of f)) 124) parts.0).0).0
 
   run_length : length (epilogue_run e) ≡ length e.codes
   unfolding epilogue_run

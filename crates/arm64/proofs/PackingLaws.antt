@@ -1,6 +1,6 @@
 -- A packed word means what was given: where `stands_for` says so, the effects of its prologue and of its epilogue are those of the given runs.
 use mathlib.Core.Path.{◌≡◌, refl, subst, sym, ap, ◌∙◌}
-use mathlib.Core.Bool.{Bool, true, false, ◌&&◌}
+use mathlib.Core.Bool.{Bool, true, false, ◌&&◌, false≢true}
 use mathlib.Core.Option.{Option, none, some}
 use mathlib.Core.List.{List, [], ◌∷◌, ◌++◌}
 use Prim.Native.Nat.{ℕ, zero, suc, ◌+◌, ◌-◌, ◌*◌}
@@ -18,15 +18,16 @@ use Rattle.arm64.specs.Packed.{packed_ok, sign_slot, lone, integer_pair, integer
 use Rattle.arm64.specs.Meaning.{Pair, only, save_two, save_pair, pair_step, integer_step, vector_step, frame_step, or_step, step_of, pair_of, effect_of, effects, reverse, prologue_means, epilogue_means}
 use Rattle.arm64.specs.Runs.{same_code, same_codes, has_next, next_pair, resolved, resolve, pair_behind, no_pair}
 use Rattle.arm64.specs.Packing.{fields_hold, stands_for}
-use Rattle.arm64.proofs.MeaningLaws.{Same, both_true, no_yes, equal, by_pick, of_kind, no_next, next_kind, next_means, step_9, step_16, or_split, behind_same}
+use Rattle.arm64.proofs.MeaningLaws.{Same, equal, by_pick, of_kind, no_next, next_kind, next_means, step_9, step_16, or_split, behind_same}
+use Rattle.std.proofs.lemmas.Bool.{and_parts}
 
 pub equal_all : (xs ys : List Code) → same_codes xs ys ≡ true → xs ≡ ys
 unfolding same_codes
 equal_all [] [] e = refl
-equal_all [] (y ∷ ys) e = absurd (no_yes e)
-equal_all (x ∷ xs) [] e = absurd (no_yes e)
+equal_all [] (y ∷ ys) e = absurd (false≢true e)
+equal_all (x ∷ xs) [] e = absurd (false≢true e)
 equal_all (x ∷ xs) (y ∷ ys) e =
-    let q = both_true (same_code x y) (same_codes xs ys) e in ap (λ z. z ∷ xs) (equal x y q.0) ∙ ap (λ zs. y ∷ zs) (equal_all xs ys q.1)
+    let q = and_parts (same_code x y) (same_codes xs ys) e in ap (λ z. z ∷ xs) (equal x y q.0) ∙ ap (λ zs. y ∷ zs) (equal_all xs ys q.1)
 
 -- ---- lists without a save_next
 
@@ -244,8 +245,8 @@ module _ (p : Packed) (ps r : List Code) (t : stands_for p ps r ≡ true) where
   tests : (resolve no_pair ps ≡ packed_prologue p) × (reverse (resolve no_pair r) ≡ packed_epilogue p)
   unfolding stands_for
   tests =
-      let a = both_true (fields_hold p && packed_ok p && same_codes (resolve no_pair ps) (packed_prologue p)) (same_codes (reverse (resolve no_pair r)) (packed_epilogue p)) t in
-      let b = both_true (fields_hold p && packed_ok p) (same_codes (resolve no_pair ps) (packed_prologue p)) a.0 in
+      let a = and_parts (fields_hold p && packed_ok p && same_codes (resolve no_pair ps) (packed_prologue p)) (same_codes (reverse (resolve no_pair r)) (packed_epilogue p)) t in
+      let b = and_parts (fields_hold p && packed_ok p) (same_codes (resolve no_pair ps) (packed_prologue p)) a.0 in
       (equal_all _ _ b.1, equal_all _ _ a.1)
 
   -- its prologue does what the given one does, instruction by instruction

@@ -16,21 +16,19 @@ use Rattle.format.specs.Questions.{per_function, Room, room_asks, accepted, fitt
 use Rattle.format.proofs.Accepted.{both, passed, not_empty}
 use Rattle.format.proofs.LebBack.{little-length}
 use Rattle.format.proofs.ListLaws.{each_get}
-use Rattle.format.proofs.Choice.{if-eq}
+use Rattle.format.proofs.Choice.{if-eq, decided}
 use Rattle.arm64.specs.Lists.{Function, function_stride, epilogue_stride, code_stride, numbered_code, numbered_epilogue, numbered_function, functions_of}
 use Rattle.arm64.specs.Reader.{Unwound, all_codes, full_record, unwound_by, fits_in, read_arm64}
 use Rattle.arm64.specs.Writer.{code_ok_at, codes_ok_in, epilogue_ok_at, function_ok_at, codes_in, lists_ok, is_packed, record_bytes, function_asks, row_bytes, info_of, markers_from, rows_of, infos_of, arm64, arm64_answer}
-use Rattle.arm64.proofs.MeaningLaws.{both_true}
 use Rattle.arm64.proofs.WriterLaws.{row_length}
 use Rattle.arm64_back.specs.Back.{whole_code, whole_codes, SameUnwound, given, written, ReadBack, second_word, EntryWord, SameReading, BytesAt}
-use Rattle.arm64_back.proofs.CodeBack.{either_way}
 use Rattle.arm64_back.proofs.RunBack.{stands_behind, stands_before, stands_first, stands_right}
-use Rattle.arm64_back.proofs.IndexBack.{both_yes}
 use Rattle.arm64_back.proofs.HeaderBack.{word_back}
 use Rattle.arm64_back.proofs.SameReadings.{written_means, many_epilogues, many_codes}
 use Rattle.arm64_back.proofs.RecordBack.{Asked, all_asked, ask_yes, record_read, record_whole}
 use Rattle.arm64_back.proofs.PackedForm.{word_for, word_fits, packed_as_full}
 use Rattle.arm64_back.proofs.PackedForm as packed
+use Rattle.std.proofs.lemmas.Bool.{and_parts, and_from}
 
 -- ---- acceptance
 
@@ -53,19 +51,19 @@ all_each : {A : Type 0} (p : ℕ → Bool) (q : A → Bool) (g : ℕ → A) → 
 unfolding all each
 all_each p q g up at zero e = refl
 all_each p q g up at (suc n) e =
-    let o = both_true (p at) (all p (each (λ i. i) (suc at) n)) e in both_yes (up at o.0) (all_each p q g up (suc at) n o.1)
+    let o = and_parts (p at) (all p (each (λ i. i) (suc at) n)) e in and_from _ _ (up at o.0) (all_each p q g up (suc at) n o.1)
 
 at_in : {A : Type 0} (p : A → Bool) (xs : List A) (k : ℕ) (a : A) → all p xs ≡ true → get_elem? xs k ≡ some a → p a ≡ true
 unfolding all
 at_in p [] k a e g = let z : ◌≡◌ {A = ℕ} 0 1 = cc in absurd (omega arith)
-at_in p (x ∷ xs) zero a e g = let same : x ≡ a = cc in ap p (sym same) ∙ (both_true (p x) (all p xs) e).0
-at_in p (x ∷ xs) (suc k) a e g = at_in p xs k a (both_true (p x) (all p xs) e).1 g
+at_in p (x ∷ xs) zero a e g = let same : x ≡ a = cc in ap p (sym same) ∙ (and_parts (p x) (all p xs) e).0
+at_in p (x ∷ xs) (suc k) a e g = at_in p xs k a (and_parts (p x) (all p xs) e).1 g
 
 codes_whole : (cs : List ℕ) (at n : ℕ) → codes_ok_in cs at n ≡ true → all whole_code (each (numbered_code cs) at n) ≡ true
 unfolding codes_ok_in all_in code_ok_at whole_code numbered_code
 codes_whole cs at n e =
     all_each (code_ok_at cs) whole_code (numbered_code cs) (λ i t. t) at n
-    (both_true (inside at n (count code_stride cs)) (all (code_ok_at cs) (each (λ i. i) at n)) e).1
+    (and_parts (inside at n (count code_stride cs)) (all (code_ok_at cs) (each (λ i. i) at n)) e).1
 
 epilogue_whole : (es cs : List ℕ) (i : ℕ) → epilogue_ok_at es cs i ≡ true → all whole_code (numbered_epilogue es cs i).codes ≡ true
 unfolding epilogue_ok_at numbered_epilogue
@@ -79,10 +77,10 @@ function_whole fs es cs k e =
     let prologue : Bool = codes_ok_in cs (field function_stride fs k 2) (field function_stride fs k 3) in
     let epilogues : Bool = inside (field function_stride fs k 4) (field function_stride fs k 5) (count epilogue_stride es) in
     let behind : Bool = all (epilogue_ok_at es cs) (each (λ i. i) (field function_stride fs k 4) (field function_stride fs k 5)) in
-    let a = both_true (symbol && prologue && epilogues) behind e in
-    let b = both_true (symbol && prologue) epilogues a.0 in
-    let c = both_true symbol prologue b.0 in
-    both_yes (codes_whole cs (f 2) (f 3) c.1)
+    let a = and_parts (symbol && prologue && epilogues) behind e in
+    let b = and_parts (symbol && prologue) epilogues a.0 in
+    let c = and_parts symbol prologue b.0 in
+    and_from _ _ (codes_whole cs (f 2) (f 3) c.1)
     (all_each (epilogue_ok_at es cs) (λ d. all whole_code d.codes) (numbered_epilogue es cs) (epilogue_whole es cs) (f 4) (f 5) a.1)
 
 -- ---- where a function's record and row stand
@@ -110,7 +108,7 @@ record_stands front at (x ∷ xs) (suc k) f l g n =
 
 info_whole : (f : Function) → length (info_of f) % 4 ≡ 0
 unfolding info_of pick
-info_whole f = either_way (is_packed f) (λ t. rw t refl) λ t. rw t (record_whole f)
+info_whole f = decided (is_packed f) (λ t. rw t refl) λ t. rw t (record_whole f)
 
 -- and it stands at whole words
 marker_in : (at : ℕ) (fs : List Function) (k : ℕ) (f : Function) → at % 4 ≡ 0 → get_elem? fs k ≡ some f → is_packed f ≡ false
@@ -134,7 +132,7 @@ row_stands (x ∷ xs) (suc k) f g =
 module _ (f : Function) (a : Asked f) where
   row_word : pick (is_packed f) (word_for f) 0 < 2 ^ 32
   unfolding pick
-  row_word = either_way (is_packed f) (λ t. rw t (word_fits f a t)) λ t. rw t (omega arith)
+  row_word = decided (is_packed f) (λ t. rw t (word_fits f a t)) λ t. rw t (omega arith)
 
   packed_word : is_packed f ≡ true → pick (is_packed f) (word_for f) 0 ≡ word_for f
   unfolding pick
@@ -159,7 +157,7 @@ module _ (f : Function) (a : Asked f) where
       → ReadBack (given f) (unwound_by word (infos_of fs ++ behind) (get_or (markers_from 0 fs) k 0))
   unfolding unwound_by
   function_back fs k g word e behind =
-      either_way (is_packed f)
+      decided (is_packed f)
       (λ t.
       let is : word ≡ word_for f = e.packed t ∙ second_word_lem fs k g ∙ packed_word t in
       subst (λ (n : ℕ). ReadBack (given f) (unwound_by n (infos_of fs ++ behind) (get_or (markers_from 0 fs) k 0))) (sym is)
@@ -213,7 +211,7 @@ module _ (fs es cs : List ℕ) (r : Room) (w : Written) (e : arm64_answer fs es 
     this_ok =
         let n : ℕ = count function_stride fs in
         let few : Bool = leb n most_functions && leb (sum_of (λ k. field function_stride fs k 5) 0 n) most_records && leb (sum_of (codes_in fs es) 0 n) most_records in
-        at_in (function_ok_at fs es cs) (each (λ i. i) 0 n) k k (both_true few (all (function_ok_at fs es cs) (each (λ i. i) 0 n)) wrote.whole).1
+        at_in (function_ok_at fs es cs) (each (λ i. i) 0 n) k k (and_parts few (all (function_ok_at fs es cs) (each (λ i. i) 0 n)) wrote.whole).1
         (each_get (λ i. i) 0 n k h ∙ ap (λ (i : ℕ). some i) (omega arith))
 
     pub this_asked : Asked this

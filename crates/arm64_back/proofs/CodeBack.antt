@@ -1,6 +1,6 @@
 -- One code's bytes read as the code: by its form, of the 20 that the kinds have.
 use mathlib.Core.Path.{◌≡◌, refl, subst, sym, ap, ◌∙◌}
-use mathlib.Core.Bool.{Bool, true, false, not, ◌&&◌, ◌||◌}
+use mathlib.Core.Bool.{Bool, true, false, not, ◌&&◌, ◌||◌, false≢true}
 use mathlib.Core.Option.{some}
 use mathlib.Core.Logic.{◌≢◌, ⊎_elim}
 use mathlib.Core.List.{List, [], ◌∷◌, ◌++◌}
@@ -15,15 +15,16 @@ use mir.Facts.{leb_yes, eqb_yes, eqb_no, or_yes}
 use borrow.Author.Tests.{ltb-true, leb-true, eqb-true, ne_eqb, eq-eqb}
 use Rattle.format.specs.Prelude.{pick, each, all}
 use Rattle.format.specs.Lists.{all_in}
-use Rattle.format.proofs.Choice.{if-le, if-gt, if-eq, if-ne, tested, either}
+use Rattle.format.proofs.Choice.{if-le, if-gt, if-eq, if-ne, tested, either, decided}
 use Rattle.format.proofs.ListLaws.{chain, chained, in_range}
 use Rattle.arm64.specs.declared.Code.{Code}
 use Rattle.arm64.specs.declared.Form.{Form}
 use Rattle.arm64.specs.Codes.{code, form, form_of, short_form, integer_form, vector_form, other_form, field_at, code_in, code_as, code_at, big, register_field, offset_field, spelled, alloc_form, kind_forms, reserved, f_alloc_s, f_alloc_m, f_alloc_l, form_for, code_bytes, last_registers, register_fits, offset_fits, code_fits}
 use Rattle.arm64.specs.Writer.{has_register, has_offset, code_ok}
 use Rattle.arm64.proofs.CodeBytes.{big-length, code-length}
-use Rattle.arm64.proofs.MeaningLaws.{both_true, no_yes, or-false}
+use Rattle.arm64.proofs.MeaningLaws.{or-false}
 use Rattle.arm64_back.specs.Back.{whole_code}
+use Rattle.std.proofs.lemmas.Bool.{and_parts}
 
 -- ---- forms by a computed test
 
@@ -46,10 +47,10 @@ form_equal f g t =
 
 if_so : (a b : Bool) → a ≡ true → T (not a || b) → T b
 if_so true b e t = t
-if_so false b e t = absurd (no_yes e)
+if_so false b e t = absurd (false≢true e)
 
 or_else_lem : (a b : Bool) → a ≡ false → T (a || b) → T b
-or_else_lem true b e t = absurd (no_yes (sym e))
+or_else_lem true b e t = absurd (false≢true (sym e))
 or_else_lem false b e t = t
 
 -- of a kind and a form of it: the numbers that its fields make lie below `spread`, in `firsts` first bytes from its opcode on
@@ -215,10 +216,6 @@ module _ (f : Form) (v : ℕ) (us vs : List ℕ) where
 
 -- ---- the fields of a code
 
-pub either_way {ℓ} : {X : Type ℓ} (b : Bool) → (b ≡ true → X) → (b ≡ false → X) → X
-either_way true f g = f refl
-either_way false f g = g refl
-
 -- a register of a kind that has one: in the form's range, in its steps
 record InRange (k : ℕ) (f : Form) (c : Code) : Type 0 where
   first : f.first ≤ c.register
@@ -230,8 +227,8 @@ module _ (k : ℕ) (f : Form) (c : Code) (r : Reads k f) (is : c.kind ≡ k) (ok
   no_register : has_register k ≡ false → c.register ≡ 0
   unfolding whole_code code_ok
   no_register n =
-      let p = both_true (leb c.kind 17 && (has_register c.kind || eqb c.register 0)) (has_offset c.kind || eqb c.offset 0) ok in
-      let q = both_true (leb c.kind 17) (has_register c.kind || eqb c.register 0) p.0 in
+      let p = and_parts (leb c.kind 17 && (has_register c.kind || eqb c.register 0)) (has_offset c.kind || eqb c.offset 0) ok in
+      let q = and_parts (leb c.kind 17) (has_register c.kind || eqb c.register 0) p.0 in
       eqb-true c.register 0 (or-false (has_register c.kind) (eqb c.register 0) (ap has_register is ∙ n) q.1)
 
   field_is : register_field f c ≡ (c.register - f.first) / f.step
@@ -248,9 +245,9 @@ module _ (k : ℕ) (f : Form) (c : Code) (r : Reads k f) (is : c.kind ≡ k) (ok
     unfolding register_fits
     in_range_of h =
         let n : eqb f.step 0 ≡ false = ne_eqb f.step 0 λ e. absurd (omega (arith, e, h)) in
-        let p = both_true (leb f.first c.register && leb c.register (get_or last_registers c.kind 0)) (eqb ((c.register - f.first) % f.step) 0)
+        let p = and_parts (leb f.first c.register && leb c.register (get_or last_registers c.kind 0)) (eqb ((c.register - f.first) % f.step) 0)
         (or-false (eqb f.step 0) _ n fits) in
-        let q = both_true (leb f.first c.register) (leb c.register (get_or last_registers c.kind 0)) p.0 in
+        let q = and_parts (leb f.first c.register) (leb c.register (get_or last_registers c.kind 0)) p.0 in
         record {
           first = leb-true f.first c.register q.0;
           last = subst (λ (i : ℕ). c.register ≤ get_or last_registers i 0) is (leb-true c.register (get_or last_registers c.kind 0) q.1);
@@ -259,7 +256,7 @@ module _ (k : ℕ) (f : Form) (c : Code) (r : Reads k f) (is : c.kind ≡ k) (ok
 
     register_back : f.first + f.step * register_field f c ≡ c.register
     register_back =
-        either_way (has_register k)
+        decided (has_register k)
         (λ t.
         let i = in_range_of (r.stepped t) in
         let d : f.step * ((c.register - f.first) / f.step) + (c.register - f.first) % f.step ≡ c.register - f.first = div-add-mod (c.register - f.first) f.step in
@@ -270,7 +267,7 @@ module _ (k : ℕ) (f : Form) (c : Code) (r : Reads k f) (is : c.kind ≡ k) (ok
 
     register_most : register_field f c ≤ (get_or last_registers k 0 - f.first) / f.step
     register_most =
-        either_way (has_register k)
+        decided (has_register k)
         (λ t.
         let i = in_range_of (r.stepped t) in
         let l : c.register - f.first ≤ get_or last_registers k 0 - f.first = omega (arith, i.last) in
@@ -284,8 +281,8 @@ module _ (k : ℕ) (f : Form) (c : Code) (r : Reads k f) (is : c.kind ≡ k) (ok
     offset_tests : (f.more ≤ c.offset) × (c.offset % f.scale ≡ 0) × (offset_field f c < f.unit)
     unfolding offset_fits
     offset_tests =
-        let p = both_true (leb f.more c.offset && eqb (c.offset % f.scale) 0) (ltb (offset_field f c) f.unit) fits in
-        let q = both_true (leb f.more c.offset) (eqb (c.offset % f.scale) 0) p.0 in
+        let p = and_parts (leb f.more c.offset && eqb (c.offset % f.scale) 0) (ltb (offset_field f c) f.unit) fits in
+        let q = and_parts (leb f.more c.offset) (eqb (c.offset % f.scale) 0) p.0 in
         (leb-true f.more c.offset q.0, eqb-true (c.offset % f.scale) 0 q.1, ltb-true (offset_field f c) f.unit p.1)
 
     even_behind : (c.offset - f.more) % f.scale ≡ 0
@@ -353,8 +350,8 @@ module _ (c : Code) (ok : whole_code c ≡ true) where
   unfolding whole_code code_ok
   known_kind =
       leb-true c.kind 17
-      (both_true (leb c.kind 17) (has_register c.kind || eqb c.register 0)
-      (both_true (leb c.kind 17 && (has_register c.kind || eqb c.register 0)) (has_offset c.kind || eqb c.offset 0) ok).0).0
+      (and_parts (leb c.kind 17) (has_register c.kind || eqb c.register 0)
+      (and_parts (leb c.kind 17 && (has_register c.kind || eqb c.register 0)) (has_offset c.kind || eqb c.offset 0) ok).0).0
 
   form_reads : Reads c.kind (form_for c)
   unfolding form_for
@@ -375,6 +372,6 @@ module _ (c : Code) (ok : whole_code c ≡ true) where
   pub code_back : code_fits c ≡ true → (us vs : List ℕ) → code_at (us ++ (code_bytes c ++ vs)) (length us) ≡ some (c, length us + length (code_bytes c))
   unfolding code_fits code_bytes
   code_back fits us vs =
-      let p = both_true (register_fits (form_for c) c) (offset_fits (form_for c) c) fits in
+      let p = and_parts (register_fits (form_for c) c) (offset_fits (form_for c) c) fits in
       form_back c.kind (form_for c) c form_reads refl ok p.0 p.1 us vs
       ∙ ap (λ (n : ℕ). some (c, length us + n)) (sym (code-length c))

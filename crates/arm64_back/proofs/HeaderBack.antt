@@ -1,6 +1,6 @@
 -- A record's header and its epilogues' words, read as they were written.
 use mathlib.Core.Path.{◌≡◌, refl, subst, sym, ap, ◌∙◌}
-use mathlib.Core.Bool.{Bool, true, false, ◌||◌}
+use mathlib.Core.Bool.{Bool, true, false}
 use mathlib.Core.List.{List, [], ◌∷◌, ◌++◌}
 use Prim.Native.Nat.{ℕ, ◌+◌, ◌*◌, ◌/◌, ◌%◌, ◌^◌, ◌≤◌, ◌<◌}
 use native.Mathlib.Omega.{arith}
@@ -11,16 +11,16 @@ use borrow.Author.Tests.{leb-false, ltb-false, eq-eqb, ne_eqb}
 use Rattle.format.specs.Prelude.{pick}
 use Rattle.format.specs.Leb.{little}
 use Rattle.format.proofs.LebBack.{little-length}
+use Rattle.format.proofs.Choice.{decided}
 use Rattle.arm64.specs.declared.Epilogues.TheVariants.{Single, Scoped}
 use Rattle.arm64.specs.declared.Header.{Header}
 use Rattle.arm64.specs.Lists.{Function}
 use Rattle.arm64.specs.Records.{word_at, version_of, is_long, header_with, short_header, long_header, header_at}
 use Rattle.arm64.specs.Runs.{run_bytes, runs_bytes, backwards, end_byte}
 use Rattle.arm64.specs.Writer.{prologue_run, own_of, instructions, single, count_of, words_of, is_long_for, header_word, header_bytes, codes_of}
-use Rattle.arm64.proofs.MeaningLaws.{no_yes}
 use Rattle.arm64_back.specs.Back.{BytesAt}
-use Rattle.arm64_back.proofs.CodeBack.{either_way}
 use Rattle.arm64_back.proofs.RunBack.{stands_left, stands_right, stands_inside}
+use Rattle.std.proofs.lemmas.Bool.{or_parts}
 
 -- ---- a word
 
@@ -107,14 +107,10 @@ pub words_some : (f : Function) → 1 ≤ words_of f
 unfolding words_of
 words_some f = omega (arith, codes_some f)
 
-or_neither : (a b : Bool) → (a || b) ≡ false → (a ≡ false) × (b ≡ false)
-or_neither true b e = absurd (no_yes (sym e))
-or_neither false b e = (refl, e)
-
 short_counts : (f : Function) → is_long_for f ≡ false → (count_of f < 32) × (words_of f < 32)
 unfolding is_long_for words_of
 short_counts f e =
-    let p = or_neither (leb 32 (count_of f)) (ltb 124 (length (codes_of f))) e in
+    let p = or_parts (leb 32 (count_of f)) (ltb 124 (length (codes_of f))) e in
     let l : length (codes_of f) ≤ 124 = ltb-false 124 (length (codes_of f)) p.1 in (leb-false 32 (count_of f) p.0, omega (arith, l))
 
 -- the mark E
@@ -123,11 +119,11 @@ mark f = pick (single f) 1 0
 
 mark_low : (f : Function) → mark f ≤ 1
 unfolding pick
-mark_low f = either_way (single f) (λ t. rw t (omega arith)) λ t. rw t (omega arith)
+mark_low f = decided (single f) (λ t. rw t (omega arith)) λ t. rw t (omega arith)
 
 mark_is : (f : Function) → eqb (mark f) 1 ≡ single f
 unfolding pick
-mark_is f = either_way (single f) (λ t. rw t refl) λ t. rw t refl
+mark_is f = decided (single f) (λ t. rw t refl) λ t. rw t refl
 
 -- the header that a function's is read as
 abbrev pub header_for : Function → (past : ℕ) → Header
@@ -184,4 +180,4 @@ module _ (f : Function) (h : Held f) (s : List ℕ) (p : ℕ) where
 
   -- A header, of either form, with anything in front and behind, is read as its fields.
   pub header_back : BytesAt s p (header_bytes f) → Headed s p f
-  header_back t = either_way (is_long_for f) (λ e. long_back e t) λ e. short_back e t
+  header_back t = decided (is_long_for f) (λ e. long_back e t) λ e. short_back e t

@@ -1,12 +1,13 @@
 -- Where the runs of a function stand among its codes, and that each is read from its index.
 use mathlib.Core.Path.{◌≡◌, refl, subst, sym, ap, ◌∙◌}
-use mathlib.Core.Bool.{Bool, true, false, ◌&&◌, ◌||◌}
+use mathlib.Core.Bool.{Bool, true, false, ◌&&◌, ◌||◌, false≢true}
 use mathlib.Core.Option.{some}
 use mathlib.Core.List.{List, [], ◌∷◌, ◌++◌}
 use Prim.Native.Nat.{ℕ, ◌+◌}
 use lib.Dec.{leb, eqb}
 use lib.ListN.{length}
 use Rattle.format.specs.Prelude.{pick, all}
+use Rattle.format.proofs.Choice.{decided}
 use Rattle.arm64.specs.declared.Code.{Code}
 use Rattle.arm64.specs.Codes.{code, fp, k_regp, k_regp_x, k_add_fp, k_fplr, k_fplr_x, k_r19_r20_x, k_set_fp, k_save_next, form_for, register_fits, code_fits}
 use Rattle.arm64.specs.Lists.{Epilogue, Function}
@@ -14,11 +15,11 @@ use Rattle.arm64.specs.Meaning.{reverse}
 use Rattle.arm64.specs.Runs.{same_code, same_codes, shorter, next_pair, next_or, simple, pair_behind, simplify, simple_fits, run_fits, run_bytes, run_size, leads, is_in, own_runs, runs_bytes, place_in, index_of}
 use Rattle.arm64.specs.Reader.{run_at}
 use Rattle.arm64.specs.Writer.{has_register, has_offset, code_ok, prologue_run, epilogue_run, epilogue_runs, own_of, codes_of, index_in}
-use Rattle.arm64.proofs.MeaningLaws.{both_true, no_yes, or-false, by_pick}
+use Rattle.arm64.proofs.MeaningLaws.{or-false, by_pick}
 use Rattle.arm64.proofs.PackingLaws.{equal_all}
 use Rattle.arm64_back.specs.Back.{AllFine, whole_code, BytesAt}
-use Rattle.arm64_back.proofs.CodeBack.{either_way}
 use Rattle.arm64_back.proofs.RunBack.{stands_behind, stands_before, stands_first, run_back, run_inside}
+use Rattle.std.proofs.lemmas.Bool.{and_parts, and_from, or_left, or_right}
 
 -- ---- what is written of a code that was asked 13 is such a code too
 
@@ -36,51 +37,41 @@ pub runs_fine : (b : Code) (cs : List Code) → all whole_code cs ≡ true → r
 unfolding all run_fits simplify simple_fits
 runs_fine b [] w e = tt
 runs_fine b (c ∷ cs) w e =
-    let p = both_true (whole_code c) (all whole_code cs) w in
-    let q = both_true (register_fits (form_for (shorter c)) (shorter c) && code_fits (simple b c)) (run_fits (pair_behind b (simple b c)) cs) e in
-    let r = both_true (register_fits (form_for (shorter c)) (shorter c)) (code_fits (simple b c)) q.0 in
+    let p = and_parts (whole_code c) (all whole_code cs) w in
+    let q = and_parts (register_fits (form_for (shorter c)) (shorter c) && code_fits (simple b c)) (run_fits (pair_behind b (simple b c)) cs) e in
+    let r = and_parts (register_fits (form_for (shorter c)) (shorter c)) (code_fits (simple b c)) q.0 in
     ((simple_whole b c p.0, r.1), runs_fine (pair_behind b (simple b c)) cs p.1 q.1)
-
-pub both_yes : {a b : Bool} → a ≡ true → b ≡ true → (a && b) ≡ true
-both_yes e f = (λ i. e i && f i)
 
 all_append : {A : Type 0} (f : A → Bool) (xs ys : List A) → all f xs ≡ true → all f ys ≡ true → all f (xs ++ ys) ≡ true
 unfolding all
 all_append f [] ys a b = b
 all_append f (x ∷ xs) ys a b =
-    let p = both_true (f x) (all f xs) a in both_yes p.0 (all_append f xs ys p.1 b)
+    let p = and_parts (f x) (all f xs) a in and_from _ _ p.0 (all_append f xs ys p.1 b)
 
 pub all-reverse : {A : Type 0} (f : A → Bool) (xs : List A) → all f xs ≡ true → all f (reverse xs) ≡ true
 unfolding all reverse
 all-reverse f [] a = refl
 all-reverse f (x ∷ xs) a =
-    let p = both_true (f x) (all f xs) a in all_append f (reverse xs) (x ∷ []) (all-reverse f xs p.1) (both_yes p.0 refl)
+    let p = and_parts (f x) (all f xs) a in all_append f (reverse xs) (x ∷ []) (all-reverse f xs p.1) (and_from _ _ p.0 refl)
 
 -- ---- runs behind the prologue's
-
-pub or_first : {a : Bool} (b : Bool) → a ≡ true → (a || b) ≡ true
-or_first b e = ap (λ x. x || b) e
-
-pub or_second : (a : Bool) {b : Bool} → b ≡ true → (a || b) ≡ true
-or_second true e = refl
-or_second false e = e
 
 in_append : (r : List Code) (qs rs : List (List Code)) → is_in r rs ≡ true → is_in r (qs ++ rs) ≡ true
 unfolding is_in
 in_append r [] rs e = e
-in_append r (q ∷ qs) rs e = or_second (same_codes r q) (in_append r qs rs e)
+in_append r (q ∷ qs) rs e = or_right (same_codes r q) _ (in_append r qs rs e)
 
 first_in : (r q : List Code) (qs : List (List Code)) → same_codes r q ≡ true → is_in r (pick false [] (q ∷ []) ++ qs) ≡ true
 unfolding pick is_in
-first_in r q qs t = or_first (is_in r qs) t
+first_in r q qs t = or_left _ (is_in r qs) t
 
 -- a run that is neither the prologue's end nor seen before is written
 pub own_in : (ps : List Code) (seen runs : List (List Code)) (r : List Code) → is_in r runs ≡ true → leads r ps ≡ false → is_in r seen ≡ false
     → is_in r (own_runs ps seen runs) ≡ true
 unfolding is_in own_runs
-own_in ps seen [] r e n m = absurd (no_yes e)
+own_in ps seen [] r e n m = absurd (false≢true e)
 own_in ps seen (q ∷ runs) r e n m =
-    either_way (same_codes r q)
+    decided (same_codes r q)
     (λ t.
     let same : r ≡ q = equal_all r q t in
     let no : (leads q ps || is_in q seen) ≡ false = ap (λ x. leads x ps || is_in x seen) (sym same) ∙ (λ i. n i || m i) in
@@ -103,9 +94,9 @@ later_place r q qs t = stands_behind (run_bytes q) t
 -- a run stands at its place
 pub place_in_lem : (r : List Code) (own : List (List Code)) → is_in r own ≡ true → BytesAt (runs_bytes own) (place_in r own) (run_bytes r)
 unfolding is_in runs_bytes place_in run_size
-place_in_lem r [] e = absurd (no_yes e)
+place_in_lem r [] e = absurd (false≢true e)
 place_in_lem r (q ∷ qs) e =
-    either_way (same_codes r q)
+    decided (same_codes r q)
     (λ t.
     subst (λ (b : Bool). BytesAt (run_bytes q ++ runs_bytes qs) (pick b 0 (length (run_bytes q) + place_in r qs)) (run_bytes r)) (sym t)
     (first_place r q qs t))
@@ -120,7 +111,7 @@ index_of_lem : (ps : List Code) (runs : List (List Code)) (r : List Code) → is
 unfolding index_of pick run_size is_in
 index_of_lem ps runs r e =
     let own : List (List Code) = own_runs ps [] runs in
-    either_way (leads r ps) (λ t. rw t (stands_before (runs_bytes own) (run_inside r ps t)))
+    decided (leads r ps) (λ t. rw t (stands_before (runs_bytes own) (run_inside r ps t)))
     λ f. rw f (stands_behind (run_bytes ps) (place_in_lem r own (own_in ps [] runs r e f refl)))
 
 module _ (f : Function) (e : Epilogue) (h : is_in (epilogue_run e) (epilogue_runs f) ≡ true) where

@@ -10,12 +10,12 @@ use Rattle.arm64.specs.Runs.{leads}
 use Rattle.arm64.specs.Reader.{Unwound, epilogue, unwound_by, full_record}
 use Rattle.arm64.specs.Packing.{candidate, packed_word, stands_for}
 use Rattle.arm64.specs.Writer.{instructions, prologue_run, epilogue_run, ends_with, packed_for, is_packed, record_bytes}
-use Rattle.arm64.proofs.MeaningLaws.{both_true}
 use Rattle.arm64.proofs.PackedBack.{Back, held, word_low, packed_back}
 use Rattle.arm64_back.specs.Back.{SameEpilogues, given, written, ReadBack, SameReading, BytesAt}
 use Rattle.arm64_back.proofs.ScopeBack.{Placed, AllPlaced}
 use Rattle.arm64_back.proofs.SameReadings.{both_same, written_means}
 use Rattle.arm64_back.proofs.RecordBack.{Asked, Only, only, record_read}
+use Rattle.std.proofs.lemmas.Bool.{and_parts}
 
 -- the word of a packed function
 abbrev pub word_for : Function → ℕ
@@ -46,7 +46,7 @@ module _ (f : Function) (a : Asked f) (t : is_packed f ≡ true) where
   word_fits =
       let e : Epilogue = only_one_lem.one in
       let word : Packed = candidate (instructions f.size) (prologue_run f) in
-      let s = (both_true (ends_with f e && leads (epilogue_run e) (prologue_run f)) (stands_for word (prologue_run f) (epilogue_run e)) only_one_lem.passes).1 in
+      let s = (and_parts (ends_with f e && leads (epilogue_run e) (prologue_run f)) (stands_for word (prologue_run f) (epilogue_run e)) only_one_lem.passes).1 in
       word_low word (held (instructions f.size) (prologue_run f) (epilogue_run e) s)
 
   -- A packed word, whatever the bytes and the place: the length and the epilogue's start as given, and codes that mean what was given.

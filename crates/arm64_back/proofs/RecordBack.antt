@@ -1,6 +1,6 @@
 -- A function's full record, read as it was written.
 use mathlib.Core.Path.{◌≡◌, refl, subst, sym, ap, ◌∙◌}
-use mathlib.Core.Bool.{Bool, true, false, ◌&&◌}
+use mathlib.Core.Bool.{Bool, true, false, ◌&&◌, false≢true}
 use mathlib.Core.Option.{none, some}
 use mathlib.Core.List.{List, [], ◌∷◌, ◌++◌, map}
 use Prim.Native.Nat.{ℕ, zero, suc, ◌+◌, ◌-◌, ◌*◌, ◌/◌, ◌%◌, ◌^◌, ◌≤◌}
@@ -14,7 +14,7 @@ use Rattle.format.specs.Leb.{little}
 use Rattle.format.specs.Questions.{ask, and_then}
 use Rattle.format.proofs.LebBack.{little-length}
 use Rattle.format.proofs.Accepted.{asked, both}
-use Rattle.format.proofs.Choice.{is_true}
+use Rattle.format.proofs.Choice.{is_true, decided}
 use Rattle.arm64.specs.declared.Epilogues.TheVariants.{Single, Scoped}
 use Rattle.arm64.specs.declared.Code.{Code}
 use Rattle.arm64.specs.Lists.{Epilogue, Function}
@@ -24,15 +24,14 @@ use Rattle.arm64.specs.Records as records
 use Rattle.arm64.specs.Runs.{no_pair, same_codes, run_fits, is_in}
 use Rattle.arm64.specs.Reader.{run_at, at_end, epilogues_by, record_epilogues, unwound, record_unwound, full_record}
 use Rattle.arm64.specs.Writer.{instructions, prologue_run, epilogue_run, epilogue_runs, codes_of, index_in, ends_with, only_one, single, first_index, count_of, words_of, is_long_for, header_word, header_bytes, scope_bytes, scopes_of, nop_byte, record_bytes, longest, size_ok, start_ok, values_ok, function_asks}
-use Rattle.arm64.proofs.MeaningLaws.{both_true, no_yes}
 use Rattle.arm64.proofs.PackingLaws.{reverse_twice}
 use Rattle.arm64_back.specs.Back.{AllFine, whole_code, whole_codes, written_epilogue, written, BytesAt}
-use Rattle.arm64_back.proofs.CodeBack.{either_way}
 use Rattle.arm64_back.proofs.RunBack.{stands_left, stands_right, stands_inside}
 use Rattle.arm64.proofs.PackingLaws.{same_all}
-use Rattle.arm64_back.proofs.IndexBack.{runs_fine, all-reverse, or_first, or_second, both_yes, index_read, prologue_back}
+use Rattle.arm64_back.proofs.IndexBack.{runs_fine, all-reverse, index_read, prologue_back}
 use Rattle.arm64_back.proofs.HeaderBack.{Held, Headed, header_for, header_back}
 use Rattle.arm64_back.proofs.ScopeBack.{Placed, AllPlaced, whole_instructions, scope_length, scopes_back, end_back}
+use Rattle.std.proofs.lemmas.Bool.{and_parts, and_from, or_left, or_right}
 
 -- ---- what the questions say of a function
 
@@ -50,17 +49,17 @@ module _ (f : Function) where
   unfolding all is_in start_ok epilogue_run
   placed_from [] up a b c = tt
   placed_from (e ∷ es) up a b c =
-      let p = both_true (eqb (e.start % 4) 0 && ltb e.start f.size) (all (start_ok f) es) a in
-      let q = both_true (run_fits no_pair (reverse e.codes)) (all (λ e. run_fits no_pair (reverse e.codes)) es) b in
-      let r = both_true (all whole_code e.codes) (all (λ e. all whole_code e.codes) es) c in
-      let o = both_true (eqb (e.start % 4) 0) (ltb e.start f.size) p.0 in (
+      let p = and_parts (eqb (e.start % 4) 0 && ltb e.start f.size) (all (start_ok f) es) a in
+      let q = and_parts (run_fits no_pair (reverse e.codes)) (all (λ e. run_fits no_pair (reverse e.codes)) es) b in
+      let r = and_parts (all whole_code e.codes) (all (λ e. all whole_code e.codes) es) c in
+      let o = and_parts (eqb (e.start % 4) 0) (ltb e.start f.size) p.0 in (
         record {
           whole = eqb-true (e.start % 4) 0 o.0;
           low = ltb-true e.start f.size o.1;
-          known = up (epilogue_run e) (or_first (is_in (epilogue_run e) (map epilogue_run es)) (same_all (epilogue_run e)));
+          known = up (epilogue_run e) (or_left _ (is_in (epilogue_run e) (map epilogue_run es)) (same_all (epilogue_run e)));
           fine = runs_fine no_pair (reverse e.codes) (all-reverse whole_code e.codes r.0) q.0;
         },
-        placed_from es (λ r t. up r (or_second (same_codes r (epilogue_run e)) t)) p.1 q.1 r.1,
+        placed_from es (λ r t. up r (or_right (same_codes r (epilogue_run e)) _ t)) p.1 q.1 r.1,
       )
 
   -- 13 of its codes, then 81, 82 and 83
@@ -69,11 +68,11 @@ module _ (f : Function) where
   all_asked w k e =
       let a = both (ask (size_ok f) 81 0) (and_then (ask (all (start_ok f) f.epilogues) 82 0) (ask (values_ok f) 83 0)) e in
       let b = both (ask (all (start_ok f) f.epilogues) 82 0) (ask (values_ok f) 83 0) a.1 in
-      let size = both_true (eqb (f.size % 4) 0) (leb (instructions f.size) longest) (ask_yes (size_ok f) 81 0 a.0) in
-      let c = both_true (run_fits no_pair f.prologue && all (λ e. run_fits no_pair (reverse e.codes)) f.epilogues && ltb (count_of f) (2 ^ 16)) (ltb (words_of f) (2 ^ 8)) (ask_yes (values_ok f) 83 0 b.1) in
-      let d = both_true (run_fits no_pair f.prologue && all (λ e. run_fits no_pair (reverse e.codes)) f.epilogues) (ltb (count_of f) (2 ^ 16)) c.0 in
-      let g = both_true (run_fits no_pair f.prologue) (all (λ e. run_fits no_pair (reverse e.codes)) f.epilogues) d.0 in
-      let h = both_true (all whole_code f.prologue) (all (λ e. all whole_code e.codes) f.epilogues) w in
+      let size = and_parts (eqb (f.size % 4) 0) (leb (instructions f.size) longest) (ask_yes (size_ok f) 81 0 a.0) in
+      let c = and_parts (run_fits no_pair f.prologue && all (λ e. run_fits no_pair (reverse e.codes)) f.epilogues && ltb (count_of f) (2 ^ 16)) (ltb (words_of f) (2 ^ 8)) (ask_yes (values_ok f) 83 0 b.1) in
+      let d = and_parts (run_fits no_pair f.prologue && all (λ e. run_fits no_pair (reverse e.codes)) f.epilogues) (ltb (count_of f) (2 ^ 16)) c.0 in
+      let g = and_parts (run_fits no_pair f.prologue) (all (λ e. run_fits no_pair (reverse e.codes)) f.epilogues) d.0 in
+      let h = and_parts (all whole_code f.prologue) (all (λ e. all whole_code e.codes) f.epilogues) w in
       let l : instructions f.size ≤ 2 ^ 18 - 1 = leb-true (instructions f.size) longest size.1 in
       record {
         held = record {
@@ -96,9 +95,9 @@ pub record Only (test : Epilogue → Bool) (es : List Epilogue) : Type 0 where
 
 pub only : (test : Epilogue → Bool) (es : List Epilogue) → only_one test es ≡ true → Only test es
 unfolding only_one
-only test [] e = absurd (no_yes e)
+only test [] e = absurd (false≢true e)
 only test (x ∷ []) e = record { one = x; are = refl; passes = e }
-only test (x ∷ y ∷ es) e = absurd (no_yes e)
+only test (x ∷ y ∷ es) e = absurd (false≢true e)
 
 padded : Function → List ℕ
 padded f = replicate (4 * words_of f - length (codes_of f)) nop_byte
@@ -116,7 +115,7 @@ module _ (f : Function) where
   module _ (past : ℕ) where
     scopes_size : length (scopes_of f) ≡ 4 * scopes_in (header_for f past)
     unfolding scopes_of scopes_in count_of pick
-    scopes_size = either_way (single f) (λ t. rw t refl) λ t. rw t (scope_length f f.epilogues)
+    scopes_size = decided (single f) (λ t. rw t refl) λ t. rw t (scope_length f f.epilogues)
 
   module _ (a : Asked f) (s : List ℕ) (past : ℕ) (scopes : BytesAt s past (scopes_of f)) where
     module _ (padding : List ℕ) (c : records.codes_of (header_for f past) s ≡ codes_of f ++ padding) where
@@ -143,7 +142,7 @@ module _ (f : Function) where
           ∙ rw c (subst P (sym o.are) (rw (index_read f e p.known padding p.fine) (end_back f a.held e p o.passes)))
 
       epilogues_back : record_epilogues (header_for f past) s ≡ some (map written_epilogue f.epilogues)
-      epilogues_back = either_way (single f) by_end by_words
+      epilogues_back = decided (single f) by_end by_words
 
       unwound_back : record_unwound (header_for f past) s ≡ some (written f)
       unfolding record_unwound after unwound written
@@ -187,7 +186,7 @@ module _ (f : Function) (a : Asked f) (s : List ℕ) (p : ℕ) (t : BytesAt s p 
   record_ok_lem =
       let h = headed in
       let l : codes_from (header_for f past) + 4 * words_of f + 0 ≤ length s = omega (arith, stands_inside codes_there, padded_length f) in
-      both_yes (both_yes (le-leb (p + 4) (length s) h.inside) (eq-eqb (version_of (word_at s p)) 0 h.version))
+      and_from _ _ (and_from _ _ (le-leb (p + 4) (length s) h.inside) (eq-eqb (version_of (word_at s p)) 0 h.version))
       (rw h.fields (le-leb (codes_from (header_for f past) + 4 * words_of f + 0) (length s) l))
 
   pub record_read : full_record s p ≡ good (written f)
@@ -203,7 +202,7 @@ module _ (f : Function) (a : Asked f) (s : List ℕ) (p : ℕ) (t : BytesAt s p 
 header_whole : (f : Function) → length (header_bytes f) % 4 ≡ 0
 unfolding header_bytes pick
 header_whole f =
-    either_way (is_long_for f)
+    decided (is_long_for f)
     (λ t.
     rw t
     (let a : length (little 4 (header_word f)) ≡ 4 = little-length 4 (header_word f) in

@@ -1,6 +1,6 @@
 -- A run of codes read from its bytes, also from inside of a longer run.
 use mathlib.Core.Path.{◌≡◌, refl, subst, sym, ap, ◌∙◌}
-use mathlib.Core.Bool.{true}
+use mathlib.Core.Bool.{true, false≢true}
 use mathlib.Core.Logic.{◌≢◌}
 use mathlib.Core.Option.{some}
 use mathlib.Core.List.{List, [], ◌∷◌, ◌++◌, append_assoc, append-nil}
@@ -15,9 +15,10 @@ use Rattle.arm64.specs.Codes.{code, k_end, form_of, other_form, field_at, code_i
 use Rattle.arm64.specs.Meaning.{reverse}
 use Rattle.arm64.specs.Runs.{same_code, backwards, end_byte, run_bytes, run_size, leads}
 use Rattle.arm64.specs.Reader.{in_front, run_f, run_at}
-use Rattle.arm64.proofs.MeaningLaws.{both_true, no_yes, equal}
+use Rattle.arm64.proofs.MeaningLaws.{equal}
 use Rattle.arm64_back.specs.Back.{Fine, AllFine, BytesAt}
 use Rattle.arm64_back.proofs.CodeBack.{known_kind, code_some, code_back}
+use Rattle.std.proofs.lemmas.Bool.{and_parts}
 
 -- ---- bytes that stand at a place of others
 
@@ -141,9 +142,9 @@ record Leading (r ps : List Code) : Type 0 where
 leading : (r ps : List Code) → leads r ps ≡ true → Leading r ps
 unfolding leads
 leading [] ps e = record { rest = ps; are = refl }
-leading (c ∷ cs) [] e = absurd (no_yes e)
+leading (c ∷ cs) [] e = absurd (false≢true e)
 leading (c ∷ cs) (p ∷ ps) e =
-    let q = both_true (same_code c p) (leads cs ps) e in
+    let q = and_parts (same_code c p) (leads cs ps) e in
     let l = leading cs ps q.1 in
     record { rest = l.rest; are = ap (λ ds. p ∷ ds) l.are ∙ ap (λ d. d ∷ (cs ++ l.rest)) (sym (equal c p q.0)) }
 

@@ -18,12 +18,12 @@ use Rattle.arm64.specs.Records.{word_at, scope_start, scope_index}
 use Rattle.arm64.specs.Runs.{is_in}
 use Rattle.arm64.specs.Reader.{in_front, at_end, scoped}
 use Rattle.arm64.specs.Writer.{instructions, epilogue_run, epilogue_runs, codes_of, index_in, ends_with, words_of, scope_bytes}
-use Rattle.arm64.proofs.MeaningLaws.{both_true}
 use Rattle.arm64_back.specs.Back.{AllFine, written_epilogue, BytesAt}
 use Rattle.arm64_back.proofs.RunBack.{stands_left, stands_right, stands_inside}
 use Rattle.arm64_back.proofs.IndexBack.{index_stands, index_read}
 use Rattle.arm64_back.proofs.SameReadings.{epilogue-length, epilogue_means_lem}
 use Rattle.arm64_back.proofs.HeaderBack.{Held, word_back}
+use Rattle.std.proofs.lemmas.Bool.{and_parts}
 
 -- an epilogue of a function, as the questions leave it
 pub record Placed (f : Function) (e : Epilogue) : Type 0 where
@@ -91,8 +91,8 @@ module _ (f : Function) (h : Held f) where
   unfolding ends_with
   ends e t =
       eqb-true (instructions (f.size - e.start)) (length e.codes + 1)
-      (both_true (eqb (instructions (f.size - e.start)) (length e.codes + 1)) (leb (index_in f e) 31)
-      (both_true (eqb (instructions (f.size - e.start)) (length e.codes + 1) && leb (index_in f e) 31) (leb (length (codes_of f)) 124) t).0).0
+      (and_parts (eqb (instructions (f.size - e.start)) (length e.codes + 1)) (leb (index_in f e) 31)
+      (and_parts (eqb (instructions (f.size - e.start)) (length e.codes + 1) && leb (index_in f e) 31) (leb (length (codes_of f)) 124) t).0).0
 
   module _ (e : Epilogue) (o : Placed f e) (a : instructions (f.size - e.start) ≡ length e.codes + 1) {n : ℕ} (l : n ≡ length e.codes) where
     fits_before : suc n ≤ instructions f.size

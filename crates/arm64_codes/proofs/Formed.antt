@@ -8,11 +8,10 @@ use native.Mathlib.Nat.{mul-le-mul, div-le_self, mod-lt}
 use native.Mathlib.Omega.{arith}
 use lib.Dec.{T, leb, eqb}
 use lib.ListN.{length, get_or}
-use mir.Facts.{leb_yes, yes_eqb}
+use mir.Facts.{leb_yes, yes_eqb, T_not}
 use Rattle.format.specs.Prelude.{pick, each, all}
 use Rattle.format.specs.Lists.{all_in}
 use Rattle.format.proofs.ListLaws.{chain, chained, in_range}
-use Rattle.format.proofs.Choice.{not_both}
 use Rattle.arm64.specs.declared.Code.{Code}
 use Rattle.arm64.specs.declared.Form.{Form}
 use Rattle.arm64.specs.Codes.{form_of, short_form, integer_form, vector_form, other_form, code_as, code_at}
@@ -36,7 +35,7 @@ passed b f t =
     record {
       some_bytes = leb_yes (g 1);
       few_bytes = leb_yes (g 2);
-      not_three = λ e. not_both (eqb f.size 3) (yes_eqb e) (g 3);
+      not_three = λ e. T_not (eqb f.size 3) (yes_eqb e) (g 3);
       opcode = leb_yes (g 4);
       parted = leb_yes (g 5);
       narrow = leb_yes (g 6);

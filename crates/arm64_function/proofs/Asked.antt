@@ -12,6 +12,7 @@ use Rattle.format.specs.Prelude.{pick, all}
 use Rattle.format.specs.Lists.{all_in, field}
 use Rattle.std.specs.Prelude.{Option, Ok, Err}
 use Rattle.std.specs.Option.{is_some}
+use Rattle.std.proofs.lemmas.Bool.{and_parts}
 use Rattle.format.proofs.Asked.{question_of}
 use Rattle.format.specs.Questions.{ask, and_then}
 use Rattle.format.proofs.Choice.{either}
@@ -22,7 +23,6 @@ use Rattle.arm64.specs.Writer.{codes_of, index_in, instructions, ends_with, only
 use Rattle.arm64_simple.specs.Saves.{saves}
 use Rattle.arm64_function.specs.declared.Parts.{Parts}
 use Rattle.arm64_function.specs.Own.{parts_at, codes_in, start_ok_at, fits_at, parts_ok, length_ok, held_to}
-use Rattle.arm64.proofs.MeaningLaws.{both_true}
 use Rattle.arm64_function.proofs.Given.{prologue_saves, epilogues_same, codes_same, starts_same, fits_same}
 
 -- ---- the first no
@@ -69,8 +69,8 @@ one_only test (x ∷ y ∷ es) e = let z : ◌≡◌ {A = ℕ} 0 1 = cc in absur
 ends_low : (f : Function) (e : Epilogue) → ends_with f e ≡ true → index_in f e ≤ 31
 unfolding ends_with
 ends_low f e t =
-    let a = both_true (eqb (instructions (f.size - e.start)) (length e.codes + 1) && leb (index_in f e) 31) (leb (length (codes_of f)) 124) t in
-    leb-true (index_in f e) 31 (both_true (eqb (instructions (f.size - e.start)) (length e.codes + 1)) (leb (index_in f e) 31) a.0).1
+    let a = and_parts (eqb (instructions (f.size - e.start)) (length e.codes + 1) && leb (index_in f e) 31) (leb (length (codes_of f)) 124) t in
+    leb-true (index_in f e) 31 (and_parts (eqb (instructions (f.size - e.start)) (length e.codes + 1)) (leb (index_in f e) 31) a.0).1
 
 first_low : (f : Function) (es : List Epilogue) → only_one (ends_with f) es ≡ true → first_index f es ≤ 31
 unfolding only_one first_index

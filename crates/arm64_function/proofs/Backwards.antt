@@ -1,10 +1,8 @@
 -- What a range gives backwards.
-use mathlib.Core.Path.{◌≡◌, refl, ◌∙◌}
+use mathlib.Core.Path.{◌≡◌, ◌∙◌}
 use mathlib.Core.List.{List, [], ◌∷◌}
 use Prim.Native.Nat.{ℕ, zero, suc, ◌+◌, ◌-◌}
 use native.Mathlib.Omega.{arith}
-use Rattle.std.specs.Prelude.{Option, Some, None}
-use Rattle.std.specs.Option.{option_map}
 use Rattle.std.specs.Iterator.{AlwaysYields}
 use Rattle.std.specs.declared.ops.Range.{Range}
 use Rattle.std.specs.declared.iter.Rev.{Rev}
@@ -16,10 +14,6 @@ use Rattle.std.proofs.lemmas.Iterator.{YieldsList}
 abbrev pub backwards_from : (a n : ℕ) → List ℕ
 backwards_from a zero = []
 backwards_from a (suc n) = (a + n) ∷ backwards_from a n
-
-pub same_option : (r : Option ℕ) → r ≡ option_map (λ x. x) r
-same_option None = refl
-same_option (Some x) = refl
 
 module _ {gap : ℕ → ℕ → ℕ} {follows : ℕ → ℕ → Type 0} (g : (a b : ℕ) → gap a b ≡ b - a) (f : (a b : ℕ) → follows a b → b ≡ a + 1) where
   gives : (a n : ℕ) (s : Rev (Range ℕ)) → (rev_source s).start ≡ a → (rev_source s).end ≡ a + n → AlwaysYields (rev_steps (range_steps_back gap follows)) (λ (x : ℕ). x) s (backwards_from a n)

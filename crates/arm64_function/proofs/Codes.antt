@@ -16,15 +16,12 @@ use Rattle.arm64_simple.specs.Saves.{saves}
 use Rattle.arm64_function.specs.declared.Parts.{Parts}
 use Rattle.arm64_function.specs.Own.{prologue_in, run_at, seen_at, own_at, own_in, later_at, codes_in, epilogue_at}
 use Rattle.arm64_function.proofs.Own.{run_is, run_size_lem, size_is, one_bytes, none_size, later_all, bytes_own, bytes_end}
+use Rattle.std.proofs.lemmas.List.{nil_from_length}
 
 -- ---- one run
 
-none_there : (xs : List ℕ) → length xs ≡ 0 → [] ≡ xs
-none_there [] e = refl
-none_there (x ∷ xs) e = absurd (omega arith)
-
 pub nothing_own : (es cs : List ℕ) (p : Parts) (i : ℕ) {n : ℕ} → n ≡ length (runs_bytes (own_at es cs p i)) → n ≡ 0 → [] ≡ runs_bytes (own_at es cs p i)
-nothing_own es cs p i e z = none_there (runs_bytes (own_at es cs p i)) (sym e ∙ z)
+nothing_own es cs p i e z = sym (nil_from_length (runs_bytes (own_at es cs p i)) (sym e ∙ z))
 
 cases : (b : Bool) (r : List Code) (n : ℕ) → n ≡ length (runs_bytes (pick b [] (r ∷ []))) → 0 < n
     → (n - 1 ≡ length (backwards r)) × (run_bytes r ≡ runs_bytes (pick b [] (r ∷ [])))

@@ -9,19 +9,19 @@ use lib.ListN.{length}
 use borrow.Author.Tests.{leb-true}
 use Rattle.format.specs.Prelude.{pick, each, all}
 use Rattle.format.specs.Lists.{field, count, inside, all_in, symbol_ok}
-use Rattle.format.proofs.ListLaws.{in_range}
+use Rattle.format.proofs.ListLaws.{in_range, map_each}
 use Rattle.format.proofs.Choice.{is_true}
 use Rattle.arm64.specs.Lists.{Function, function_stride, epilogue_stride, numbered_code, numbered_epilogue, numbered_function}
 use Rattle.arm64.specs.Meaning.{reverse}
 use Rattle.arm64.specs.Runs.{no_pair, simplify, run_fits, own_runs, run_bytes, runs_bytes, index_of}
 use Rattle.arm64.specs.Writer.{codes_ok_in, code_ok_at, epilogue_ok_at, function_ok_at, prologue_run, epilogue_run, epilogue_runs, own_of, codes_of, index_in, start_ok}
-use Rattle.arm64.proofs.MeaningLaws.{both_true}
 use Rattle.arm64_simple.specs.Saves.{place_of, saved_at, saves, Inside}
 use Rattle.arm64_function.specs.declared.Parts.{Parts}
 use Rattle.arm64.specs.declared.Part.{Part}
 use Rattle.arm64.specs.declared.Part.TheVariants as part
 use Rattle.arm64_function.specs.Listed.{Listed}
 use Rattle.arm64_function.specs.Own.{prologue_at, epilogue_at, parts_at, Ready, prologue_in, run_at, own_in, codes_in, index_at, start_ok_at, fits_at}
+use Rattle.std.proofs.lemmas.Bool.{and_parts}
 
 -- ---- a function at each number of a range
 
@@ -56,11 +56,6 @@ module _ {A : Type 0} where
       each_last (λ j. g (at + (suc n - (j + 1)))) 0 n
       ∙ ap (λ (i : ℕ). each (λ j. g (at + (suc n - (j + 1)))) 0 n ++ (g i ∷ [])) e
       ∙ ap (λ l. l ++ (g at ∷ [])) (each_same (λ j. g (at + (suc n - (j + 1)))) (λ j. g (suc at + (n - (j + 1)))) 0 n (λ j a b. ap g (omega arith)) ∙ each_back g (suc at) n)
-
-pub map_each : {A B : Type 0} (h : A → B) (f : ℕ → A) (at n : ℕ) → map h (each f at n) ≡ each (λ i. h (f i)) at n
-unfolding each
-map_each h f at zero = refl
-map_each h f at (suc n) = ap (λ l. h (f at) ∷ l) (map_each h f (suc at) n)
 
 pub all_each : {A : Type 0} (test : A → Bool) (at_test : ℕ → Bool) (f : ℕ → A) (at n : ℕ) → ((i : ℕ) → test (f i) ≡ at_test i)
     → all test (each f at n) ≡ all_in at_test at n
@@ -149,7 +144,7 @@ module _ (fs es cs : List ℕ) (k : ℕ) where
 module _ {fs es cs : List ℕ} {k : ℕ} (l : Listed fs es cs k) (short : length cs * 8 < 2 ^ 63) where
   codes_inside : (at n : ℕ) → codes_ok_in cs at n ≡ true → at + n ≤ length cs / 3
   unfolding codes_ok_in inside
-  codes_inside at n e = leb-true (at + n) (length cs / 3) (both_true (leb (at + n) (length cs / 3)) (all_in (code_ok_at cs) at n) e).0
+  codes_inside at n e = leb-true (at + n) (length cs / 3) (and_parts (leb (at + n) (length cs / 3)) (all_in (code_ok_at cs) at n) e).0
 
   inside_of : (at n : ℕ) (b : Part) → codes_ok_in cs at n ≡ true → Inside cs (record { at = at; count = n; part = b })
   inside_of at n b e = let h = codes_inside at n e in record { room = omega (arith, h); low = omega (arith, h) }
@@ -163,9 +158,9 @@ module _ {fs es cs : List ℕ} {k : ℕ} (l : Listed fs es cs k) (short : length
   unfolding function_ok_at inside
   says =
       let g : ℕ → ℕ = λ j. field function_stride fs k j in
-      let a = both_true (symbol_ok (g 0) && codes_ok_in cs (g 2) (g 3) && leb (g 4 + g 5) (length es / 3)) (all_in (epilogue_ok_at es cs) (g 4) (g 5)) l.ok in
-      let b = both_true (symbol_ok (g 0) && codes_ok_in cs (g 2) (g 3)) (leb (g 4 + g 5) (length es / 3)) a.0 in
-      let d = both_true (symbol_ok (g 0)) (codes_ok_in cs (g 2) (g 3)) b.0 in
+      let a = and_parts (symbol_ok (g 0) && codes_ok_in cs (g 2) (g 3) && leb (g 4 + g 5) (length es / 3)) (all_in (epilogue_ok_at es cs) (g 4) (g 5)) l.ok in
+      let b = and_parts (symbol_ok (g 0) && codes_ok_in cs (g 2) (g 3)) (leb (g 4 + g 5) (length es / 3)) a.0 in
+      let d = and_parts (symbol_ok (g 0)) (codes_ok_in cs (g 2) (g 3)) b.0 in
       record { prologue = d.1; range = leb-true (g 4 + g 5) (length es / 3) b.1; epilogues = a.1 }
 
   pub in_list : field function_stride fs k 4 + field function_stride fs k 5 ≤ length es / 3

@@ -11,7 +11,9 @@ use Rattle.arm64.specs.declared.Code.{Code}
 use Rattle.arm64.specs.Runs.{same_codes, backwards, run_bytes, run_size, leads, is_in, runs_bytes, place_in, index_of}
 use Rattle.arm64_function.specs.declared.Parts.{Parts}
 use Rattle.arm64_function.specs.Own.{prologue_in, run_at, seen_at, own_at, own_in, later_at, Ahead, codes_in, index_at, Nearest}
-use Rattle.arm64_function.proofs.Own.{both_false, is_in_first, runs_self, leading, run_size_lem, later_all, later_own, seen_next, own_alone, one_bytes, size_is, prologue_size}
+use Rattle.arm64_function.proofs.Own.{is_in_first, leading, run_size_lem, later_all, later_own, seen_next, own_alone, one_bytes, size_is, prologue_size}
+use Rattle.arm64.proofs.PackingLaws.{same_all}
+use Rattle.std.proofs.lemmas.Bool.{or_parts}
 
 place_other : (r q : List Code) (b : Bool) (l : List (List Code)) → same_codes r q ≡ false
     → place_in r (pick b [] (q ∷ []) ++ l) ≡ length (runs_bytes (pick b [] (q ∷ []))) + place_in r l
@@ -23,7 +25,7 @@ place_other r q false l e =
 
 place_same : (r : List Code) (l : List (List Code)) → place_in r (r ∷ l) ≡ 0
 unfolding pick place_in
-place_same r l = ap (λ (x : Bool). pick x 0 (run_size r + place_in r l)) (runs_self r)
+place_same r l = ap (λ (x : Bool). pick x 0 (run_size r + place_in r l)) (same_all r)
 
 place_first : (r : List Code) (o l : List (List Code)) → o ≡ r ∷ [] → place_in r (o ++ l) ≡ 0
 place_first r o l e = ap (λ q. place_in r (q ++ l)) e ∙ place_same r l
@@ -38,7 +40,7 @@ unfolding own_at
 ahead_turn {es} {cs} {p} {next} {i} {x} a l h e =
     record {
       ahead = λ r g.
-          let d = both_false (same_codes r (run_at es cs i)) (is_in r (seen_at es cs p i))
+          let d = or_parts (same_codes r (run_at es cs i)) (is_in r (seen_at es cs p i))
           (sym (is_in_first r (run_at es cs i) (seen_at es cs p i)) ∙ sym (ap (is_in r) (seen_next [] (run_at es cs) p.first 0 i l)) ∙ g) in
           let z = ap (place_in r) (later_own es cs p i l h)
           ∙ place_other r (run_at es cs i) (leads (run_at es cs i) (prologue_in cs p) || is_in (run_at es cs i) (seen_at es cs p i)) (later_at es cs p (i + 1)) d.0 in

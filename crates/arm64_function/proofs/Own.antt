@@ -1,50 +1,37 @@
 -- Runs of their own: what loops over a function's epilogues know.
 use mathlib.Core.Path.{◌≡◌, refl, sym, ap, subst, ◌∙◌}
-use mathlib.Core.Bool.{Bool, true, false, cond, ◌&&◌, ◌||◌}
+use mathlib.Core.Bool.{Bool, true, false, cond, ◌||◌, false≢true}
 use mathlib.Core.List.{List, [], ◌∷◌, ◌++◌, append-nil, append_assoc}
 use Prim.Native.Nat.{ℕ, zero, suc, ◌+◌, ◌-◌, ◌≤◌, ◌<◌}
 use native.Mathlib.Omega.{arith}
 use Rattle.std.specs.List.{find}
 use Rattle.std.specs.Option.{option_map}
-use Rattle.arm64_function.proofs.Backwards.{backwards_from, same_option}
+use Rattle.arm64_function.proofs.Backwards.{backwards_from}
 use lib.ListN.{length, length-append}
-use borrow.Author.Tests.{lt-ltb, le-ltb, eq-eqb}
+use borrow.Author.Tests.{lt-ltb, le-ltb}
 use Rattle.format.specs.Prelude.{pick, each}
 use Rattle.std.specs.Prelude.{Option, Some, None, IfSome}
 use Rattle.std.specs.Option.{unwrap_or, is_some}
+use Rattle.std.proofs.lemmas.Bool.{and_parts}
+use Rattle.std.proofs.lemmas.Iterator.Adapters.{option_map_id}
 use Rattle.format.proofs.Choice.{if-gt}
 use Rattle.arm64.specs.declared.Code.{Code}
 use Rattle.arm64.specs.Codes.{code_bytes}
 use Rattle.arm64.specs.Runs.{no_pair, same_code, same_codes, simplify, run_fits, backwards, run_bytes, run_size, leads, is_in, own_runs, runs_bytes}
 use Rattle.arm64_simple.specs.Saves.{saves}
 use Rattle.arm64_function.specs.declared.Parts.{Parts}
-use Rattle.arm64.proofs.MeaningLaws.{both_true, no_yes, equal}
+use Rattle.arm64.proofs.MeaningLaws.{equal}
 use Rattle.arm64.proofs.PackingLaws.{equal_all}
 use Rattle.arm64_function.specs.Own.{prologue_in, run_at, seen_from, seen_at, own_at, own_in, later_at, codes_in, Nearest, held_to, epilogue_at, fits_at}
-
-pub both_false : (a b : Bool) → a || b ≡ false → (a ≡ false) × (b ≡ false)
-both_false true b e = absurd (no_yes (sym e))
-both_false false b e = (refl, e)
-
--- ---- equal runs
-
-same_self : (x : Code) → same_code x x ≡ true
-unfolding same_code
-same_self x = simp (eq-eqb x.kind x.kind refl, eq-eqb x.register x.register refl, eq-eqb x.offset x.offset refl)
-
-pub runs_self : (xs : List Code) → same_codes xs xs ≡ true
-unfolding same_codes
-runs_self [] = refl
-runs_self (x ∷ xs) = ap (λ b. b && same_codes xs xs) (same_self x) ∙ runs_self xs
 
 -- ---- a run that leads in another is no longer
 
 leading_size : (r ps : List Code) → leads r ps ≡ true → length (backwards r) ≤ length (backwards ps)
 unfolding leads backwards
 leading_size [] ps e = omega arith
-leading_size (c ∷ cs) [] e = absurd (no_yes e)
+leading_size (c ∷ cs) [] e = absurd (false≢true e)
 leading_size (c ∷ cs) (p ∷ ps) e =
-    let h = both_true (same_code c p) (leads cs ps) e in
+    let h = and_parts (same_code c p) (leads cs ps) e in
     let l = leading_size cs ps h.1 in
     let g : length (code_bytes c) ≡ length (code_bytes p) = ap (λ x. length (code_bytes x)) (equal c p h.0) in
     omega (arith, length-append (backwards cs) (code_bytes c), length-append (backwards ps) (code_bytes p))
@@ -176,16 +163,16 @@ module _ (es cs : List ℕ) (p : Parts) (i : ℕ) where
   pub near_found : p.first ≤ i → (r : Option ℕ) → option_map (λ x. x) r ≡ find same_at (backwards_from p.first (i - p.first)) → Near r
   near_found h r e =
       let g : i ≡ p.first + (i - p.first) = omega (arith, h) in
-      subst Near (sym (same_option r ∙ e)) (near_from (i - p.first) (subst (Searching es cs p i) g (searching_start h)))
+      subst Near (sym e ∙ option_map_id r) (near_from (i - p.first) (subst (Searching es cs p i) g (searching_start h)))
 
 -- by whether one was found
 pub near_some : (r : Option ℕ) (i : ℕ) → IfSome r (λ j. j < i) → is_some r ≡ true → unwrap_or r i < i
-near_some None i h e = absurd (no_yes e)
+near_some None i h e = absurd (false≢true e)
 near_some (Some j) i h e = h
 
 pub near_none : (r : Option ℕ) (i : ℕ) → is_some r ≡ false → i ≤ unwrap_or r i
 near_none None i e = omega arith
-near_none (Some j) i e = absurd (no_yes (sym e))
+near_none (Some j) i e = absurd (false≢true (sym e))
 
 -- ---- a run of its own
 

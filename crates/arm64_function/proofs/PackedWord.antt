@@ -8,6 +8,7 @@ use lib.Dec.{T, leb, ltb, eqb}
 use lib.ListN.{length}
 use borrow.Author.Tests.{leb-true, le-leb, lt-leb, ltb-true}
 use Rattle.std.specs.Prelude.{Option, Some, None}
+use Rattle.std.proofs.lemmas.Bool.{and_parts}
 use Rattle.format.specs.Prelude.{pick, each}
 use Rattle.format.specs.Lists.{all_in, field}
 use Rattle.format.proofs.ListLaws.{each-length, in_range}
@@ -23,7 +24,6 @@ use Rattle.arm64_function.specs.declared.Parts.{Parts}
 use Rattle.arm64_function.specs.Listed.{Fine}
 use Rattle.arm64_function.specs.Own.{prologue_at, epilogue_at, parts_at, Fitted, prologue_in, run_at, own_in, codes_in, index_at, start_ok_at, fits_at, parts_ok, most_codes}
 use Rattle.arm64_function.specs.PackedWord.{shared_in, packed_at, Only}
-use Rattle.arm64.proofs.MeaningLaws.{both_true}
 use Rattle.arm64_function.proofs.Given.{prologue_same, epilogue_run_lem, epilogues_same, codes_same, index_same, starts_same, ready}
 use Rattle.arm64_function.proofs.Own.{run_size_lem, leading}
 use Rattle.arm64_function.proofs.Asked.{passed, values_same}
@@ -231,11 +231,11 @@ module _ {fs es cs : List ℕ} {k : ℕ} (h : Fine fs es cs k) where
   unfolding parts_ok fits_at
   fitted =
       let n = parts.end - parts.first in
-      let a = both_true
+      let a = and_parts
       (run_fits no_pair (saves cs parts.prologue) && all_in (fits_at es cs) parts.first n && ltb n 65536)
       (leb (length (codes_in es cs parts)) most_codes) values in
-      let b = both_true (run_fits no_pair (saves cs parts.prologue) && all_in (fits_at es cs) parts.first n) (ltb n 65536) a.0 in
-      let d = both_true (run_fits no_pair (saves cs parts.prologue)) (all_in (fits_at es cs) parts.first n) b.0 in
+      let b = and_parts (run_fits no_pair (saves cs parts.prologue) && all_in (fits_at es cs) parts.first n) (ltb n 65536) a.0 in
+      let d = and_parts (run_fits no_pair (saves cs parts.prologue)) (all_in (fits_at es cs) parts.first n) b.0 in
       record { prologue = d.0; epilogues = λ i l g. in_all (fits_at es cs) parts.first n i d.1 l (omega (arith, l, g)) }
 
   pub size_short : instructions (field function_stride fs k 1) < 2 ^ 18
@@ -243,7 +243,7 @@ module _ {fs es cs : List ℕ} {k : ℕ} (h : Fine fs es cs k) where
   size_short =
       let size = field function_stride fs k 1 in
       let l = leb-true (instructions size) longest
-      (both_true (eqb (size % 4) 0) (leb (instructions size) longest) (passed k (numbered_function fs es cs k) h.asked).0).1 in
+      (and_parts (eqb (size % 4) 0) (leb (instructions size) longest) (passed k (numbered_function fs es cs k) h.asked).0).1 in
       omega (arith, l)
 
   pub start_low : (i : ℕ) → parts.first ≤ i → i < parts.end → field epilogue_stride es i 0 < field function_stride fs k 1
@@ -252,7 +252,7 @@ module _ {fs es cs : List ℕ} {k : ℕ} (h : Fine fs es cs k) where
       let size = field function_stride fs k 1 in
       let n = parts.end - parts.first in
       let a : all_in (start_ok_at es size) parts.first n ≡ true = sym (starts_same fs es cs k) ∙ (passed k (numbered_function fs es cs k) h.asked).1.0 in
-      let b = both_true (eqb (field epilogue_stride es i 0 % 4) 0) (ltb (field epilogue_stride es i 0) size)
+      let b = and_parts (eqb (field epilogue_stride es i 0 % 4) 0) (ltb (field epilogue_stride es i 0) size)
       (in_all (start_ok_at es size) parts.first n i a l (omega (arith, l, g))) in
       ltb-true (field epilogue_stride es i 0) size b.1
 

@@ -1,6 +1,6 @@
 -- A function's record by its parts is the function's, and what its writers know.
 use mathlib.Core.Path.{◌≡◌, refl, subst, sym, ap, ◌∙◌}
-use mathlib.Core.Bool.{Bool, true, false, ◌&&◌, and-true, and-false}
+use mathlib.Core.Bool.{Bool, true, false, ◌&&◌, and-true, and-false, false≢true}
 use mathlib.Core.List.{List, [], ◌++◌}
 use Prim.Native.Nat.{ℕ, zero, suc, ◌+◌, ◌-◌, ◌*◌, ◌/◌, ◌^◌, ◌≤◌, ◌<◌}
 use native.Mathlib.Omega.{arith}
@@ -13,6 +13,7 @@ use Rattle.format.specs.Lists.{all_in, field}
 use Rattle.format.proofs.Wrote.{Wrote}
 use Rattle.format.proofs.PutLaws.{kept}
 use Rattle.format.proofs.ListLaws.{each-length}
+use Rattle.format.proofs.Choice.{some_picked, none_picked}
 use Rattle.arm64.specs.Lists.{Function, function_stride, epilogue_stride, numbered_epilogue, numbered_function}
 use Rattle.arm64.specs.Runs.{no_pair, backwards, leads, run_fits}
 use Rattle.arm64.specs.Writer.{codes_of, instructions, ends_with, only_one, single, first_index, count_of, words_of, header_bytes, scope_bytes, scopes_of, record_bytes, info_of, is_packed, nop_byte}
@@ -27,10 +28,9 @@ use Rattle.arm64_function.specs.declared.Shape.{Shape}
 use Rattle.arm64_function.specs.Listed.{Fine}
 use Rattle.arm64_function.specs.Own.{parts_at, prologue_in, run_at, codes_in, index_at, word_at, words_from, parts_ok, fits_at, held_to, most_codes}
 use Rattle.arm64_function.specs.Record.{Whole, single_at, count_at, words_at, Shaped, scopes_at, record_at}
-use Rattle.arm64.proofs.MeaningLaws.{both_true, no_yes}
 use Rattle.std.specs.Prelude.{Option, Some, None}
-use Rattle.std.specs.Option.{unwrap_or, is_some}
-use Rattle.std.proofs.lemmas.Option.{none-some}
+use Rattle.std.specs.Option.{is_some}
+use Rattle.std.proofs.lemmas.Bool.{and_parts}
 use Rattle.arm64_function.proofs.Given.{epilogues_same, codes_same, index_same, ready}
 use Rattle.arm64_function.proofs.Own.{searching_start, searching_ended}
 use Rattle.arm64_function.proofs.Indexes.{ahead_start, index_own, index_low}
@@ -45,17 +45,6 @@ yes_pick : {X : Type 0} (x y : X) → pick true x y ≡ x
 unfolding pick
 yes_pick x y = refl
 
--- a choice by whether it is there
-picked_some : (b : Bool) {i x : ℕ} → pick b (Some x) None ≡ Some i → (b ≡ true) × (i ≡ x)
-unfolding pick
-picked_some true e = (refl, sym (ap (λ o. unwrap_or o 0) e))
-picked_some false {i} e = absurd (none-some i e)
-
-picked_none : (b : Bool) (x : ℕ) → pick b (Some x) None ≡ None → b ≡ false
-unfolding pick
-picked_none true x e = absurd (none-some x (sym e))
-picked_none false x e = refl
-
 -- ---- what the questions have answered
 
 pub whole : {fs es cs : List ℕ} {k : ℕ} → Fine fs es cs k → length cs * 8 < 2 ^ 63 → Whole es cs (parts_at fs k) (field function_stride fs k 1)
@@ -63,10 +52,10 @@ unfolding parts_ok instructions
 whole {fs} {es} {cs} {k} h short =
     let p = parts_at fs k in
     let n = p.end - p.first in
-    let a = both_true
+    let a = and_parts
     (run_fits no_pair (saves cs p.prologue) && all_in (fits_at es cs) p.first n && ltb n 65536)
     (leb (length (codes_in es cs p)) most_codes) (values h) in
-    let b = both_true (run_fits no_pair (saves cs p.prologue) && all_in (fits_at es cs) p.first n) (ltb n 65536) a.0 in
+    let b = and_parts (run_fits no_pair (saves cs p.prologue) && all_in (fits_at es cs) p.first n) (ltb n 65536) a.0 in
     record {
       ready = ready h.listed short;
       fitted = fitted h;
@@ -108,7 +97,7 @@ module _ (es cs : List ℕ) (p : Parts) (size : ℕ) where
   unfolding single_at
   single_one e =
       eqb-true (p.end - p.first) 1
-      (both_true (eqb (p.end - p.first) 1) (eqb (instructions (size - field epilogue_stride es p.first 0)) (field epilogue_stride es p.first 2 + 1)
+      (and_parts (eqb (p.end - p.first) 1) (eqb (instructions (size - field epilogue_stride es p.first 0)) (field epilogue_stride es p.first 2 + 1)
       && leb (index_at es cs p p.first) 31 && leb (length (codes_in es cs p)) 124) e).0
 
 module _ {es cs : List ℕ} {p : Parts} {size : ℕ} (w : Whole es cs p size) (one : p.end - p.first ≡ 1) where
@@ -130,13 +119,13 @@ module _ (es cs : List ℕ) (p : Parts) (size : ℕ) where
 module _ {es cs : List ℕ} {p : Parts} {size : ℕ} (w : Whole es cs p size) {codes : ℕ} (g : held_to (length (codes_in es cs p)) ≡ Some codes) where
   pub shape_codes : codes ≡ length (codes_in es cs p)
   unfolding held_to
-  shape_codes = (picked_some (leb (length (codes_in es cs p)) 1020) g).1
+  shape_codes = (some_picked (leb (length (codes_in es cs p)) 1020) _ g).1
 
   module _ {r : Option ℕ} (e : r ≡ pick (single_at es cs p size) (Some (index_at es cs p p.first)) None) where
     pub shape_only : {i : ℕ} → r ≡ Some i → Shaped es cs p size (record { epilogues = Single i; codes = codes })
     unfolding count_at pick
     shape_only {i} y =
-        let h = picked_some (single_at es cs p size) (sym e ∙ y) in
+        let h = some_picked (single_at es cs p size) _ (sym e ∙ y) in
         record {
           is_only = sym h.0;
           is_count = h.1 ∙ sym (ap (λ b. pick b (index_at es cs p p.first) (p.end - p.first)) h.0);
@@ -148,7 +137,7 @@ module _ {es cs : List ℕ} {p : Parts} {size : ℕ} (w : Whole es cs p size) {c
     pub shape_many : r ≡ None → Shaped es cs p size (record { epilogues = Scoped (p.end - p.first); codes = codes })
     unfolding count_at pick
     shape_many y =
-        let h = picked_none (single_at es cs p size) _ (sym e ∙ y) in
+        let h = none_picked (single_at es cs p size) _ (sym e ∙ y) in
         record {
           is_only = sym h;
           is_count = sym (ap (λ b. pick b (index_at es cs p p.first) (p.end - p.first)) h);
@@ -322,12 +311,12 @@ module _ (fs es cs : List ℕ) (k : ℕ) where
       where
         by : (b : Bool) → w ≡ pick b (Some c) None → [] ≡ pick b [] (record_bytes f)
         by true g = sym (yes_pick [] (record_bytes f))
-        by false g = absurd (no_yes (sym (ap is_some (g ∙ no_pick (Option ℕ) (Some c) None)) ∙ h))
+        by false g = absurd (false≢true (sym (ap is_some (g ∙ no_pick (Option ℕ) (Some c) None)) ∙ h))
 
     pub info_of_lem : is_some w ≡ false → {q : Parts} → q ≡ p → record_at es cs q size ≡ info_of f
     unfolding info_of
     info_of_lem h {q} z = ap (λ x. record_at es cs x size) z ∙ by (is_packed f) e
       where
         by : (b : Bool) → w ≡ pick b (Some c) None → record_at es cs p size ≡ pick b [] (record_bytes f)
-        by true g = absurd (no_yes (sym h ∙ ap is_some (g ∙ yes_pick (Some c) None)))
+        by true g = absurd (false≢true (sym h ∙ ap is_some (g ∙ yes_pick (Some c) None)))
         by false g = sym (no_pick (List ℕ) [] (record_bytes f) ∙ record_same)

@@ -4,7 +4,7 @@ use mathlib.Core.List.{List, [], ◌∷◌, ◌++◌}
 use Prim.Native.Nat.{ℕ, zero, suc, ◌+◌, ◌-◌, ◌*◌, ◌/◌, ◌%◌, ◌^◌, ◌≤◌, ◌<◌}
 use native.Mathlib.Omega.{arith}
 use lib.ListN.{length, get_or, set, length-set, length-append}
-use lib.Seq.{get_or-set_same, get_or-set_other}
+use lib.Seq.{get_or-set_same}
 use Rattle.format.specs.Leb.{little}
 use Rattle.format.specs.Put.{put}
 use Rattle.format.proofs.LebBack.{little-length}
@@ -16,22 +16,18 @@ use Rattle.arm64.specs.Runs.{backwards, runs_bytes}
 use Rattle.arm64.specs.Lists.{epilogue_stride}
 use Rattle.arm64.specs.Writer.{instructions}
 use Rattle.format.specs.Lists.{field}
+use Rattle.format.proofs.PutLaws.{put_before}
 use Rattle.arm64_function.specs.declared.Parts.{Parts}
 use Rattle.arm64_function.specs.declared.Scope.{Scope}
 use Rattle.arm64_function.specs.Own.{prologue_in, own_at, codes_in, index_at, word_at, words_from, index_in, Known, Ahead, Started}
 use Rattle.arm64_function.proofs.Own.{Summing, summing_start, summing_turn}
 use Rattle.arm64_function.proofs.Indexes.{ahead_start, ahead_turn}
 
--- ---- bytes in front of a store, and in it
-
-before_put : (xs : List ℕ) (q : ℕ) (bs : List ℕ) (k : ℕ) → k < q → get_or (put xs q bs) k 0 ≡ get_or xs k 0
-unfolding put
-before_put xs q [] k h = refl
-before_put xs q (b ∷ bs) k h = before_put (set xs q b) (q + 1) bs k (omega arith) ∙ get_or-set_other xs q k b 0 (λ e. omega arith)
+-- ---- bytes of a store
 
 at_put : (xs : List ℕ) (q b : ℕ) (bs : List ℕ) → q < length xs → get_or (put xs q (b ∷ bs)) q 0 ≡ b
 unfolding put
-at_put xs q b bs h = before_put (set xs q b) (q + 1) bs q (omega arith) ∙ get_or-set_same xs q b 0 h
+at_put xs q b bs h = put_before (set xs q b) (q + 1) bs q (omega arith) ∙ get_or-set_same xs q b 0 h
 
 third : (xs : List ℕ) (q v : ℕ) → q + 4 ≤ length xs → get_or (put xs q (little 4 v)) (q + 2) 0 ≡ v / 65536 % 256
 unfolding little put
@@ -65,8 +61,8 @@ stored_index {xs} {ys} {q} {r} s x h l m w =
 kept_index : {xs ys : List ℕ} {q r : ℕ} {bs : List ℕ} (k : ℕ) → k + 4 ≤ q → Wrote xs ys q r bs → index_in ys k ≡ index_in xs k
 unfolding index_in
 kept_index {xs} {ys} {q} {r} {bs} k h w =
-    let a : get_or ys (k + 2) 0 ≡ get_or xs (k + 2) 0 = ap (λ zs. get_or zs (k + 2) 0) w.stored ∙ before_put xs q bs (k + 2) (omega arith) in
-    let b : get_or ys (k + 3) 0 ≡ get_or xs (k + 3) 0 = ap (λ zs. get_or zs (k + 3) 0) w.stored ∙ before_put xs q bs (k + 3) (omega arith) in
+    let a : get_or ys (k + 2) 0 ≡ get_or xs (k + 2) 0 = ap (λ zs. get_or zs (k + 2) 0) w.stored ∙ put_before xs q bs (k + 2) (omega arith) in
+    let b : get_or ys (k + 3) 0 ≡ get_or xs (k + 3) 0 = ap (λ zs. get_or zs (k + 3) 0) w.stored ∙ put_before xs q bs (k + 3) (omega arith) in
     omega (arith, a, b)
 
 -- ---- the words one after the other

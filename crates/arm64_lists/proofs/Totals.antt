@@ -15,13 +15,13 @@ use Rattle.format.specs.Lists.{count, inside, symbol_ok, all_in}
 use Rattle.format.proofs.ListLaws.{in_range}
 use native.Mathlib.Nat.{zero-add}
 use Rattle.std.specs.Prelude.{Option, Some, None}
-use Rattle.std.specs.Option.{unwrap_or, is_some}
-use Rattle.std.proofs.lemmas.Option.{none-some}
+use Rattle.std.specs.Option.{is_some}
+use Rattle.std.proofs.lemmas.Option.{none-some, same_Some}
+use Rattle.std.proofs.lemmas.Bool.{and_parts}
 use borrow.Author.Tests.{le-leb, lt-leb}
 use Rattle.format.specs.Prelude.{pick}
 use Rattle.lists.proofs.Answers.{reached}
 use Rattle.arm64.specs.Writer.{codes_ok_in, epilogue_ok_at, function_ok_at}
-use Rattle.arm64.proofs.MeaningLaws.{both_true}
 use Rattle.arm64_lists.specs.Sums.{up_to}
 
 pub up_low : (n : ℕ) → n ≤ most_records → Some n ≡ up_to n
@@ -32,18 +32,12 @@ pub up_high : (n : ℕ) → most_records < n → None ≡ up_to n
 unfolding up_to
 up_high n h = rw (if-gt n most_records)
 
-some_none : {n : ℕ} → Some n ≡ None → ⊥
-some_none {n} e = none-some n (sym e)
-
-some_same : {n m : ℕ} → Some n ≡ Some m → n ≡ m
-some_same e = ap (λ o. unwrap_or o 0) e
-
 pub up_some : {r : Option ℕ} {n m : ℕ} → r ≡ up_to n → r ≡ Some m → (m ≡ n) × (n ≤ most_records)
 up_some {r} {n} {m} e s =
-    either n most_records (λ l. (some_same (sym s ∙ e ∙ sym (up_low n l)), l)) λ l. absurd (some_none (sym s ∙ e ∙ sym (up_high n l)))
+    either n most_records (λ l. (same_Some _ _ (sym s ∙ e ∙ sym (up_low n l)), l)) λ l. absurd (none-some _ (up_high n l ∙ sym e ∙ s))
 
 pub up_none : {r : Option ℕ} {n : ℕ} → r ≡ up_to n → r ≡ None → most_records < n
-up_none {r} {n} e s = either n most_records (λ l. absurd (some_none (up_low n l ∙ sym e ∙ s))) λ l. l
+up_none {r} {n} e s = either n most_records (λ l. absurd (none-some _ (sym s ∙ e ∙ sym (up_low n l)))) λ l. l
 
 pub up_is : (n : ℕ) → is_some (up_to n) ≡ leb n most_records
 unfolding up_to pick
@@ -105,8 +99,8 @@ module _ (fs es cs : List ℕ) where
   unfolding function_ok_at
   one_range k e =
       let f : ℕ → ℕ = λ j. field function_stride fs k j in
-      let p = both_true (symbol_ok (f 0) && codes_ok_in cs (f 2) (f 3) && inside (f 4) (f 5) (count epilogue_stride es)) (all_in (epilogue_ok_at es cs) (f 4) (f 5)) e in
-      let q = both_true (symbol_ok (f 0) && codes_ok_in cs (f 2) (f 3)) (inside (f 4) (f 5) (count epilogue_stride es)) p.0 in
+      let p = and_parts (symbol_ok (f 0) && codes_ok_in cs (f 2) (f 3) && inside (f 4) (f 5) (count epilogue_stride es)) (all_in (epilogue_ok_at es cs) (f 4) (f 5)) e in
+      let q = and_parts (symbol_ok (f 0) && codes_ok_in cs (f 2) (f 3)) (inside (f 4) (f 5) (count epilogue_stride es)) p.0 in
       reached (f 4) (f 5) (count epilogue_stride es) q.1
 
   pub ranges : (n : ℕ) → all_in (function_ok_at fs es cs) 0 n ≡ true → (k : ℕ) → k < n

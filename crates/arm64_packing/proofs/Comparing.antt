@@ -1,7 +1,6 @@
 -- A run compared with the places of a packed word: what the loop knows at each turn, and the epilogue's places backwards.
 use mathlib.Core.Path.{◌≡◌, refl, sym, ap, ◌∙◌}
 use mathlib.Core.Bool.{Bool, true, false, not, ◌&&◌}
-use Rattle.arm64_simple.proofs.OneCode.{not_yes, not_no}
 use mathlib.Core.List.{List, [], ◌∷◌, ◌++◌, append-nil}
 use Prim.Native.Nat.{ℕ, zero, suc, ◌+◌, ◌-◌, ◌≤◌, ◌<◌}
 use native.Mathlib.Omega.{arith}
@@ -12,6 +11,8 @@ use mathlib.Core.Option.{Option, none, some}
 use Rattle.std.specs.Prelude.{Some, None}
 use Rattle.std.specs.Prelude as code
 use Rattle.std.specs.Option.{MatchOption, is_some}
+use Rattle.std.proofs.lemmas.Bool.{not-true, not-false}
+use Rattle.std.specs.Cmp.{both_ways}
 use Rattle.arm64.specs.Packed.{with_slot, slots_from, slot_at, packed_prologue, packed_epilogue}
 use Rattle.arm64.specs.Meaning.{reverse}
 use Rattle.arm64.specs.Runs.{no_pair, same_code, same_codes, resolved}
@@ -85,8 +86,8 @@ module _ {all : List Code} {f : ℕ → Option Code} {left : List Step} {i : ℕ
     pub matching_ended : (later : List Step) (r : code.Option Step) {b : Bool} → MatchOption r ((left ≡ []) × (later ≡ [])) (λ s. left ≡ s ∷ later)
         → is_some r ≡ not b → b ≡ same_codes all (slots_from f 0 19)
     unfolding same_codes
-    matching_ended later None {b} n e = not_no b e ∙ sym (ended ∙ ap (λ x. same_codes (resolves x) []) n.0)
-    matching_ended later (Some s) {b} n e = not_yes b e ∙ sym (ended ∙ ap (λ x. same_codes (resolves x) []) n)
+    matching_ended later None {b} n e = not-false b (sym e) ∙ sym (ended ∙ ap (λ x. same_codes (resolves x) []) n.0)
+    matching_ended later (Some s) {b} n e = not-true b (sym e) ∙ sym (ended ∙ ap (λ x. same_codes (resolves x) []) n)
 
 -- ---- the epilogue's places backwards
 
@@ -124,11 +125,6 @@ epilogue_places p = places_back (slot_at Epilogue p) 19 0 0 refl
 
 -- ---- lists that are the same backwards
 
-agree : (a b : Bool) → (a ≡ true → b ≡ true) → (b ≡ true → a ≡ true) → a ≡ b
-agree true b f g = sym (f refl)
-agree false true f g = g refl
-agree false false f g = refl
-
 of_equal : {xs ys : List Code} → xs ≡ ys → same_codes xs ys ≡ true
 of_equal {xs} e = ap (same_codes xs) (sym e) ∙ same_all xs
 
@@ -138,7 +134,7 @@ prologue_same xs p = refl
 
 pub epilogue_same : (xs : List Code) (p : Packed) → same_codes xs (slots_from (placed Epilogue p) 0 19) ≡ same_codes (reverse xs) (packed_epilogue p)
 epilogue_same xs p =
-    agree _ _ (λ t. of_equal (ap reverse (equal_all xs (slots_from (placed Epilogue p) 0 19) t) ∙ epilogue_places p)) λ t.
+    both_ways _ _ (λ t. of_equal (ap reverse (equal_all xs (slots_from (placed Epilogue p) 0 19) t) ∙ epilogue_places p)) λ t.
     of_equal
     (sym (reverse_twice xs) ∙ ap reverse (equal_all (reverse xs) (packed_epilogue p) t ∙ sym (epilogue_places p))
     ∙ reverse_twice (slots_from (placed Epilogue p) 0 19))

@@ -4,6 +4,7 @@ use mathlib.Core.Bool.{true, ◌||◌}
 use mathlib.Core.List.{List, [], ◌∷◌}
 use lib.ListN.{length}
 use Rattle.std.specs.List.{list_all}
+use Rattle.std.proofs.lemmas.Bool.{and_parts}
 use Prim.Native.Nat.{ℕ, suc, ◌+◌, ◌*◌, ◌^◌, ◌≤◌, ◌<◌}
 use native.Mathlib.Omega.{arith}
 use lib.Dec.{eqb}
@@ -13,7 +14,7 @@ use Rattle.arm64.specs.declared.Packed.{Packed}
 use Rattle.arm64.specs.Codes.{code, k_alloc, k_r19_r20_x, k_fplr_x, k_reg_x, k_fregp_x, k_save_next, code_fits}
 use Rattle.arm64.specs.Runs.{no_pair, has_next, next_pair, resolved, simplify, resolve, run_fits}
 use Rattle.arm64.specs.Packing.{down_in, tally, tallies, nothing_yet, as_fields, candidate}
-use Rattle.arm64.proofs.MeaningLaws.{both_true, by_pick}
+use Rattle.arm64.proofs.MeaningLaws.{by_pick}
 use Rattle.arm64_spelled.proofs.FitLaws.{fits_low}
 use Rattle.arm64_simple.specs.declared.Run.{Run}
 use Rattle.arm64_simple.specs.Saves.{saves}
@@ -86,7 +87,7 @@ module _ {ps : List Code} {size count : ℕ} {left : List Step} {n : Counts} (t 
 
   module _ {later : List Step} {s : Step} (e : left ≡ s ∷ later) {d : Code} (g : d ≡ resolved s.before s.written) where
     parts : (step_fits s ≡ true) × (list_all step_fits later ≡ true)
-    parts = both_true (step_fits s) (list_all step_fits later) (sym (ap (list_all step_fits) e) ∙ t.fits)
+    parts = and_parts (step_fits s) (list_all step_fits later) (sym (ap (list_all step_fits) e) ∙ t.fits)
 
     pub tallying_down : down_in d < 2 ^ 29
     tallying_down =

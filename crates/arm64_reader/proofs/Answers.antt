@@ -7,9 +7,8 @@ use mathlib.Core.List.{List, [], ◌∷◌, ◌++◌, append-nil}
 use Prim.Native.Nat.{ℕ, suc, ◌+◌, ◌-◌, ◌*◌, ◌/◌, ◌%◌, ◌≤◌, ◌<◌}
 use native.Mathlib.Omega.{arith}
 use lib.ListN.{length, length-append}
-use Rattle.std.specs.Prelude.{Ok, Err, Some, None, MatchResult}
+use Rattle.std.specs.Prelude.{Ok, Err, MatchResult}
 use Rattle.std.specs.Prelude as code
-use Rattle.std.specs.Option.{ok_or}
 use Rattle.format.specs.Prelude.{pick, after, Result, good, bad, onward, or_else}
 use Rattle.format.specs.declared.question.Question.{Question}
 use Rattle.format.specs.declared.question.Question.TheVariants.{OtherRoom}
@@ -17,7 +16,7 @@ use Rattle.format.specs.Coded.{result_of, numbered}
 use Rattle.format.specs.Numbers.{number_of}
 use Rattle.format.specs.Put.{put}
 use Rattle.format.proofs.Wrote.{Wrote}
-use Rattle.format.proofs.Choice.{if-le, if-gt, if-eq, if-ne}
+use Rattle.format.proofs.Choice.{if-le, if-gt, if-eq, if-ne, when_true, when_false}
 use Rattle.format.proofs.PutLaws.{put-append}
 use Rattle.arm64.specs.declared.Code.{Code}
 use Rattle.arm64.specs.declared.Epilogues.{Epilogues}
@@ -37,19 +36,9 @@ use Rattle.arm64_runs.specs.Runs.{codes_in, count_of}
 use Rattle.arm64_records.specs.Parts.{headed_at, total_of, epilogues_in, words_from, how_many}
 use Rattle.arm64_records.proofs.Epilogues.{scoped-length, counted_run}
 use Rattle.arm64_records.proofs.Whole.{by_words, many_all, many_one, one, total_some}
-use Rattle.arm64_records.proofs.Headers.{when_true, when_false}
 use Rattle.arm64_reader.specs.Answers.{reading_with, roomy, answer_of, Answered, found}
 
 -- ---- refusals
-
--- what stands in front of a `?`: the value that was there, or that there was none and by what is refused
-pub given : {A : Type 0} (o : code.Option A) (q : Question) {x : A} → ok_or o q ≡ Ok x → o ≡ Some x
-given None q e = let f : ◌≡◌ {A = ℕ} 0 1 = cc in absurd (omega arith)
-given (Some y) q e = cc
-
-pub lacking : {A : Type 0} (o : code.Option A) (q : Question) {e : Question} → ok_or o q ≡ Err e → (o ≡ None) × (q ≡ e)
-lacking None q e = (refl, cc)
-lacking (Some y) q e = let f : ◌≡◌ {A = ℕ} 0 1 = cc in absurd (omega arith)
 
 pub refuses : {x : Result Unwound} {q : Question} {r : code.Result Arm64Reading Question} {es cs : List ℕ} → x ≡ bad (number_of q) → r ≡ Err q → Answered x r es es cs cs
 unfolding answer_of epilogues_after codes_after

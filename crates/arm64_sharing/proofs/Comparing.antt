@@ -1,20 +1,22 @@
 -- Two runs compared code by code.
 use mathlib.Core.Path.{◌≡◌, refl, sym, ap, ◌∙◌}
-use mathlib.Core.Bool.{Bool, true, false, ◌&&◌}
+use mathlib.Core.Bool.{Bool, false, ◌&&◌}
 use mathlib.Core.List.{List, [], ◌∷◌}
 use Prim.Native.Nat.{ℕ, suc, ◌≤◌, ◌<◌}
 use native.Mathlib.Omega.{arith}
 use lib.Dec.{eqb}
 use lib.ListN.{length}
 use Rattle.std.specs.List.{list_all, zip}
+use Rattle.std.proofs.lemmas.Bool.{and_right}
 use Rattle.arm64.specs.declared.Code.{Code}
-use Rattle.arm64.specs.Runs.{no_pair, same_code, same_codes, simple, pair_behind, simplify, leads}
+use Rattle.arm64.specs.Runs.{no_pair, same_code, same_codes, simplify, leads}
 use Rattle.arm64_simple.specs.declared.Run.{Run}
 use Rattle.arm64_simple.specs.declared.Step.{Step}
 use Rattle.arm64_simple.specs.Saves.{saves}
 use Rattle.arm64_simple.specs.Steps.{steps}
 use Rattle.arm64_simple.proofs.OneCode.{same_is}
 use Rattle.arm64_simple.proofs.Loops.{written, written_all, steps-length, saves-length}
+use Rattle.arm64.proofs.PackedBack.{simplify-length}
 
 -- ---- step by step
 
@@ -39,23 +41,14 @@ leads_all cs ds r o h =
 
 -- ---- by lengths
 
-simplify-length : (b : Code) (ds : List Code) → length (simplify b ds) ≡ length ds
-unfolding simplify
-simplify-length b [] = refl
-simplify-length b (d ∷ ds) = ap suc (simplify-length (pair_behind b (simple b d)) ds)
-
 pub written_length : (cs : List ℕ) (r : Run) → length (simplify no_pair (saves cs r)) ≡ r.count
 written_length cs r = simplify-length no_pair (saves cs r) ∙ saves-length cs r
-
-false_and : (a b : Bool) → b ≡ false → (a && b) ≡ false
-false_and true b e = e
-false_and false b e = refl
 
 long_no : (xs ys : List Code) → length ys < length xs → leads xs ys ≡ false
 unfolding leads
 long_no [] ys h = absurd (omega arith)
 long_no (x ∷ xs) [] h = refl
-long_no (x ∷ xs) (y ∷ ys) h = false_and (same_code x y) (leads xs ys) (long_no xs ys (omega arith))
+long_no (x ∷ xs) (y ∷ ys) h = and_right (same_code x y) (leads xs ys) (long_no xs ys (omega arith))
 
 pub longer : (cs ds : List ℕ) (r o : Run) → o.count < r.count → false ≡ leads (simplify no_pair (saves cs r)) (simplify no_pair (saves ds o))
 longer cs ds r o h = sym (long_no _ _ (omega (arith, written_length cs r, written_length ds o)))
@@ -72,7 +65,7 @@ unfolding same_codes
 other_length [] [] h = absurd (h refl)
 other_length [] (y ∷ ys) h = refl
 other_length (x ∷ xs) [] h = refl
-other_length (x ∷ xs) (y ∷ ys) h = false_and (same_code x y) (same_codes xs ys) (other_length xs ys (λ e. h (ap suc e)))
+other_length (x ∷ xs) (y ∷ ys) h = and_right (same_code x y) (same_codes xs ys) (other_length xs ys (λ e. h (ap suc e)))
 
 pub counts_equal : (cs ds : List ℕ) (r o : Run) → r.count ≡ o.count
     → leads (simplify no_pair (saves cs r)) (simplify no_pair (saves ds o)) ≡ same_codes (simplify no_pair (saves cs r)) (simplify no_pair (saves ds o))

@@ -6,13 +6,13 @@ use Prim.Native.Nat.{ℕ, ◌+◌, ◌-◌, ◌≤◌}
 use native.Mathlib.Omega.{arith}
 use lib.ListN.{length, length-append}
 use Rattle.std.specs.List.{list_all}
+use Rattle.std.proofs.lemmas.Bool.{and_parts}
 use Rattle.format.specs.Put.{put}
 use Rattle.format.proofs.Wrote.{Wrote}
 use Rattle.format.proofs.PutLaws.{put-append, kept, put-in_front}
 use Rattle.arm64.specs.declared.Code.{Code}
 use Rattle.arm64.specs.Codes.{code_bytes, code_fits}
 use Rattle.arm64.specs.Runs.{no_pair, simplify, run_fits, backwards, run_bytes}
-use Rattle.arm64.proofs.MeaningLaws.{both_true}
 use Rattle.arm64_simple.specs.declared.Run.{Run}
 use Rattle.arm64_simple.specs.declared.Step.{Step}
 use Rattle.arm64_simple.specs.Saves.{saves}
@@ -42,7 +42,7 @@ put_start cs r {xs} {at} {size} {left} l f e h =
 
 module _ {whole xs₀ xs : List ℕ} {at to : ℕ} {left later : List Step} {s : Step} (p : Putting whole xs₀ xs at to left) (e : left ≡ s ∷ later) where
   parts : (step_fits s ≡ true) × (list_all step_fits later ≡ true)
-  parts = both_true (step_fits s) (list_all step_fits later) (sym (ap (list_all step_fits) e) ∙ p.fits)
+  parts = and_parts (step_fits s) (list_all step_fits later) (sym (ap (list_all step_fits) e) ∙ p.fits)
 
   pub put_fits : code_fits s.written ≡ true
   put_fits = fits_code s parts.0

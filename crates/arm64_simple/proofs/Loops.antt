@@ -6,12 +6,12 @@ use Prim.Native.Nat.{ℕ, suc, ◌+◌, ◌-◌, ◌*◌, ◌≤◌}
 use native.Mathlib.Omega.{arith}
 use lib.ListN.{length, length-append}
 use Rattle.std.specs.List.{list_all}
+use Rattle.std.proofs.lemmas.Bool.{and_parts}
 use Rattle.format.specs.Prelude.{each}
 use Rattle.format.proofs.ListLaws.{each_next, each_none, each-length}
 use Rattle.arm64.specs.declared.Code.{Code}
 use Rattle.arm64.specs.Codes.{code_bytes, code_fits, form_for, register_fits}
 use Rattle.arm64.specs.Runs.{no_pair, shorter, resolved, simple, pair_behind, simplify, resolve, simple_fits, run_fits, backwards}
-use Rattle.arm64.proofs.MeaningLaws.{both_true}
 use Rattle.arm64_simple.specs.declared.Run.{Run}
 use Rattle.arm64_simple.specs.declared.Step.{Step}
 use Rattle.arm64_simple.specs.Saves.{saved_at, saves}
@@ -83,7 +83,7 @@ fits_no s e = simp e
 
 pub fits_code : (s : Step) → step_fits s ≡ true → code_fits s.written ≡ true
 unfolding step_fits
-fits_code s e = (both_true (register_fits (form_for (shorter s.given)) (shorter s.given)) (code_fits s.written) e).1
+fits_code s e = (and_parts (register_fits (form_for (shorter s.given)) (shorter s.given)) (code_fits s.written) e).1
 
 pub fits_all : (b : Code) (cs : List Code) → list_all step_fits (steps b cs) ≡ run_fits b cs
 unfolding steps step_fits run_fits simple_fits

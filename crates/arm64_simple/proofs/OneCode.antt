@@ -1,6 +1,6 @@
 -- One code: the answers of the leaves, by the code's own tests.
-use mathlib.Core.Path.{◌≡◌, refl, sym, ap, ◌∙◌}
-use mathlib.Core.Bool.{Bool, true, false, not, ◌&&◌, ◌||◌, and-true, and-false, or-true}
+use mathlib.Core.Path.{◌≡◌, sym, ap, ◌∙◌}
+use mathlib.Core.Bool.{true, false, not, ◌&&◌, ◌||◌, and-true, and-false, or-true, and_assoc}
 use Prim.Native.Nat.{ℕ, ◌+◌, ◌*◌, ◌≤◌, ◌<◌}
 use native.Mathlib.Omega.{arith}
 use lib.Dec.{ltb, eqb}
@@ -14,30 +14,18 @@ use Rattle.arm64_simple.specs.declared.Run.{Run}
 use Rattle.arm64_simple.specs.Saves.{place_of, saved_at}
 use Rattle.arm64.specs.Codes.{code}
 use Rattle.arm64.specs.Runs.{same_code, shorter, pair_in, has_next, next_pair, resolved, next_or}
-use Rattle.arm64.proofs.MeaningLaws.{both_true}
-
-and_assoc : (x y z : Bool) → (x && (y && z)) ≡ ((x && y) && z)
-and_assoc true y z = refl
-and_assoc false y z = refl
+use Rattle.std.proofs.lemmas.Bool.{and_parts, not-true, not-false}
 
 -- what the derived comparison tells
 pub same_is : (a b : Code) → (eqb a.kind b.kind && (eqb a.register b.register && eqb a.offset b.offset)) ≡ same_code a b
 unfolding same_code
-same_is a b = and_assoc (eqb a.kind b.kind) (eqb a.register b.register) (eqb a.offset b.offset)
-
-pub not_yes : (x : Bool) → true ≡ not x → x ≡ false
-not_yes true e = e
-not_yes false e = refl
-
-pub not_no : (x : Bool) → false ≡ not x → x ≡ true
-not_no true e = refl
-not_no false e = e
+same_is a b = sym (and_assoc (eqb a.kind b.kind) (eqb a.register b.register) (eqb a.offset b.offset))
 
 pub differing : (a b : Code) → true ≡ not (eqb a.kind b.kind && (eqb a.register b.register && eqb a.offset b.offset)) → same_code a b ≡ false
-differing a b e = sym (same_is a b) ∙ not_yes (eqb a.kind b.kind && (eqb a.register b.register && eqb a.offset b.offset)) e
+differing a b e = sym (same_is a b) ∙ not-true (eqb a.kind b.kind && (eqb a.register b.register && eqb a.offset b.offset)) (sym e)
 
 pub agreeing : (a b : Code) → false ≡ not (eqb a.kind b.kind && (eqb a.register b.register && eqb a.offset b.offset)) → same_code a b ≡ true
-agreeing a b e = sym (same_is a b) ∙ not_no (eqb a.kind b.kind && (eqb a.register b.register && eqb a.offset b.offset)) e
+agreeing a b e = sym (same_is a b) ∙ not-false (eqb a.kind b.kind && (eqb a.register b.register && eqb a.offset b.offset)) (sym e)
 
 module _ (c : Code) where
   -- shorter
@@ -173,8 +161,8 @@ module _ (c : Code) where
   pub next_low : has_next c ≡ true → (c.register < 29) × (c.offset < 1024)
   unfolding has_next
   next_low e =
-      let p = both_true ((eqb c.kind 4 || eqb c.kind 9) && ltb c.register 29) (ltb c.offset 1024) e in
-      (ltb-true c.register 29 (both_true (eqb c.kind 4 || eqb c.kind 9) (ltb c.register 29) p.0).1, ltb-true c.offset 1024 p.1)
+      let p = and_parts ((eqb c.kind 4 || eqb c.kind 9) && ltb c.register 29) (ltb c.offset 1024) e in
+      (ltb-true c.register 29 (and_parts (eqb c.kind 4 || eqb c.kind 9) (ltb c.register 29) p.0).1, ltb-true c.offset 1024 p.1)
 
   pub next_there : has_next c ≡ true → code c.kind (c.register + 2) (c.offset + 16) ≡ next_pair c
   unfolding next_pair pick

@@ -11,6 +11,7 @@ use mir.Facts.{leb_yes}
 use borrow.Author.Tests.{lt-leb, le-leb, ne_eqb, eq-eqb, leb-true, ltb-true}
 use Rattle.std.proofs.Common.{w16, w32}
 use Rattle.std.specs.Int.{to_be_bytes}
+use Rattle.std.proofs.lemmas.Bool.{and_parts}
 use Rattle.format.specs.Prelude.{each, all}
 use Rattle.format.specs.Lists.{all_in}
 use Rattle.format.proofs.ListLaws.{in_range}
@@ -19,7 +20,7 @@ use Rattle.arm64_spelled.proofs.FormLaws.{past_last, form_good}
 use Rattle.arm64.specs.declared.Form.{Form}
 use Rattle.arm64.specs.declared.Code.{Code}
 use Rattle.arm64.specs.Codes.{last_registers, form_for, register_field, offset_field, register_fits, offset_fits, code_fits, spelled, code_bytes, big}
-use Rattle.arm64.proofs.MeaningLaws.{both_true, or-false}
+use Rattle.arm64.proofs.MeaningLaws.{or-false}
 use Rattle.arm64_spelled.specs.Forms.{FormGood, InRanges, word_of}
 
 module _ (f : Form) (c : Code) where
@@ -80,17 +81,17 @@ module _ (f : Form) (c : Code) (r : register_fits f c ≡ true) (o : offset_fits
 
   pub ranges : InRanges f c
   ranges =
-      let p = both_true (leb f.more c.offset && eqb (c.offset % f.scale) 0) (ltb (offset_field f c) f.unit) in_offsets in
+      let p = and_parts (leb f.more c.offset && eqb (c.offset % f.scale) 0) (ltb (offset_field f c) f.unit) in_offsets in
       let q : (f.step ≡ 0 → ⊥) → (leb f.first c.register && leb c.register (get_or last_registers c.kind 0)) ≡ true
-      = λ n. (both_true (leb f.first c.register && leb c.register (get_or last_registers c.kind 0)) (eqb ((c.register - f.first) % f.step) 0) (in_registers_lem n)).0 in
+      = λ n. (and_parts (leb f.first c.register && leb c.register (get_or last_registers c.kind 0)) (eqb ((c.register - f.first) % f.step) 0) (in_registers_lem n)).0 in
       let r : (f.step ≡ 0 → ⊥) → (leb f.first c.register ≡ true) × (leb c.register (get_or last_registers c.kind 0) ≡ true)
-      = λ n. both_true (leb f.first c.register) (leb c.register (get_or last_registers c.kind 0)) (q n) in
+      = λ n. and_parts (leb f.first c.register) (leb c.register (get_or last_registers c.kind 0)) (q n) in
       record {
         first = λ n. leb-true f.first c.register (r n).0;
         last = λ n.
             let m : c.register ≤ get_or last_registers c.kind 0 = leb-true c.register (get_or last_registers c.kind 0) (r n).1 in
             omega (arith, m, last_low c.kind);
-        more = leb-true f.more c.offset (both_true (leb f.more c.offset) (eqb (c.offset % f.scale) 0) p.0).0;
+        more = leb-true f.more c.offset (and_parts (leb f.more c.offset) (eqb (c.offset % f.scale) 0) p.0).0;
         held = ltb-true (offset_field f c) f.unit p.1;
       }
 
@@ -98,7 +99,7 @@ pub fits_ranges : (c : Code) → code_fits c ≡ true → InRanges (form_for c) 
 unfolding code_fits
 fits_ranges c e =
     let p : (register_fits (form_for c) c ≡ true) × (offset_fits (form_for c) c ≡ true)
-    = both_true (register_fits (form_for c) c) (offset_fits (form_for c) c) e in
+    = and_parts (register_fits (form_for c) c) (offset_fits (form_for c) c) e in
     ranges (form_for c) c p.0 p.1
 
 -- the largest is an allocation's

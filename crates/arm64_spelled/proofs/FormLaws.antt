@@ -6,16 +6,17 @@ use Prim.Native.Nat.{ℕ, zero, suc, ◌/◌, ◌≤◌, ◌<◌, ◌^◌}
 use native.Mathlib.Nat.{zero-add}
 use native.Mathlib.Omega.{arith}
 use lib.Dec.{T, leb, ltb, eqb}
-use lib.ListN.{length, get_or}
-use mir.Facts.{leb_yes, yes_eqb}
+use lib.ListN.{get_or}
+use mir.Facts.{leb_yes, yes_eqb, T_not}
 use Rattle.format.specs.Prelude.{pick, each, all}
 use Rattle.format.specs.Lists.{all_in}
-use Rattle.format.proofs.Choice.{if-le, if-gt, if-eq, if-ne, pick_yes, pick_no, tested, either, not_both}
+use Rattle.format.proofs.Choice.{if-le, if-gt, if-eq, if-ne, pick_yes, pick_no, tested, either}
 use Rattle.format.proofs.ListLaws.{chain, chained, in_range}
 use Rattle.arm64.specs.declared.Form.{Form}
 use Rattle.arm64.specs.declared.Code.{Code}
 use Rattle.arm64.specs.Codes.{form_of, short_form, integer_form, vector_form, other_form, form_for, alloc_form, kind_forms, last_registers, reserved, f_alloc_s, f_alloc_m, f_alloc_l}
 use Rattle.arm64_spelled.specs.Forms.{opcodes, FormGood}
+use Rattle.std.proofs.lemmas.List.{get_or_past}
 
 opcode_form : (k : ℕ) → k < 18 → form_of (get_or opcodes k 0xdf) ≡ get_or kind_forms k reserved
 unfolding form_of short_form integer_form vector_form other_form pick
@@ -39,21 +40,15 @@ opcode_form (suc (suc (suc (suc (suc (suc (suc (suc (suc (suc (suc (suc (suc (su
 opcode_form (suc (suc (suc (suc (suc (suc (suc (suc (suc (suc (suc (suc (suc (suc (suc (suc (suc zero))))))))))))))))) h = refl
 opcode_form (suc (suc (suc (suc (suc (suc (suc (suc (suc (suc (suc (suc (suc (suc (suc (suc (suc (suc k)))))))))))))))))) h = absurd (omega arith)
 
--- behind a list's end stands the other value
-past_end : {A : Type 0} (xs : List A) (k : ℕ) (d : A) → length xs ≤ k → get_or xs k d ≡ d
-past_end [] k d h = refl
-past_end (x ∷ xs) zero d h = absurd (omega arith)
-past_end (x ∷ xs) (suc k) d h = past_end xs k d (omega arith)
-
 past_kinds : (k : ℕ) → 17 < k → get_or kind_forms k reserved ≡ reserved
-past_kinds k h = past_end kind_forms k reserved h
+past_kinds k h = get_or_past kind_forms k reserved h
 
 module _ (c : Code) where
   pub by_kind : (c.kind ≡ 0 → ⊥) → form_of (get_or opcodes c.kind 0xdf) ≡ form_for c
   unfolding form_for form_of vector_form pick
   by_kind n =
       either (suc c.kind) 18 (λ h. rw (if-ne c.kind 0) (opcode_form c.kind h)) λ h.
-      rw (if-ne c.kind 0, past_end opcodes c.kind 0xdf (omega (arith, h))) (sym (past_kinds c.kind (omega (arith, h))))
+      rw (if-ne c.kind 0, get_or_past opcodes c.kind 0xdf (omega (arith, h))) (sym (past_kinds c.kind (omega (arith, h))))
 
   module _ (e : c.kind ≡ 0) where
     alloc : form_for c ≡ alloc_form c.offset
@@ -89,7 +84,7 @@ passed f t =
     record {
       some_bytes = leb_yes (g 1);
       few_bytes = leb_yes (g 2);
-      not_three = λ e. not_both (eqb f.size 3) (yes_eqb e) (g 3);
+      not_three = λ e. T_not (eqb f.size 3) (yes_eqb e) (g 3);
       opcode = leb_yes (g 4);
       narrow = leb_yes (g 5);
       scaled = leb_yes (g 6);
@@ -126,4 +121,4 @@ form_good c =
     λ t. rw (pick_no (eqb c.kind 0) (alloc_form c.offset) (get_or kind_forms c.kind reserved) t) (kind_good c.kind)
 
 pub past_last : (k : ℕ) → 17 < k → 0 ≡ get_or last_registers k 0
-past_last k h = sym (past_end last_registers k 0 h)
+past_last k h = sym (get_or_past last_registers k 0 h)

@@ -4,7 +4,6 @@ use Prim.Native.Nat.{ℕ, ◌*◌}
 use mathlib.Core.List.{List}
 use lib.ListN.{length}
 use Rattle.std.specs.Prelude.{Some, Ok}
-use Rattle.std.specs.Prelude.{Ok}
 use Rattle.format.specs.Prelude.{each}
 use Rattle.format.specs.Put.{put}
 use Rattle.format.specs.Lists.{numbers_of}

@@ -14,7 +14,7 @@ use Rattle.format.specs.Leb.{little}
 use Rattle.format.specs.Lists.{Relocation}
 use Rattle.format.specs.Headers.{reloc}
 use Rattle.format.specs.X64.{marker}
-use Rattle.format.proofs.Choice.{if-eq, if-ne}
+use Rattle.format.proofs.Choice.{if-eq, if-ne, is_some_picked}
 use Rattle.arm64.specs.Lists.{Function}
 use Rattle.arm64.specs.Packing.{candidate, packed_word}
 use Rattle.arm64.specs.Writer.{prologue_run, instructions, is_packed, is_long_for, header_word, count_of, words_of, header_bytes, scopes_of, codes_of, nop_byte, record_bytes, row_bytes, row_relocs, info_of, no_record}
@@ -26,11 +26,6 @@ word_of : (b : Bool) (w : ℕ) → unwrap_or (pick b (Some w) None) 0 ≡ pick b
 unfolding pick
 word_of true w = refl
 word_of false w = refl
-
-there : (b : Bool) (w : ℕ) → is_some (pick b (Some w) None) ≡ b
-unfolding pick
-there true w = refl
-there false w = refl
 
 module _ (place symbol : ℕ) (word : Option ℕ) where
   pub alone : is_some word ≡ true → relocs_by place symbol word ≡ reloc place symbol image_reloc 4 0 ∷ []
@@ -53,7 +48,7 @@ module _ (f : Function) {word : Option ℕ} (e : word ≡ pick (is_packed f) (So
   unfolding relocs_by row_relocs
   relocs_are place =
       ap (λ b. reloc place f.symbol image_reloc 4 0 ∷ pick b [] (reloc (place + 4) (marker f.symbol) image_reloc 4 0 ∷ []))
-      (ap is_some e ∙ there (is_packed f) (packed_word (candidate (instructions f.size) (prologue_run f))))
+      (ap is_some e ∙ is_some_picked (is_packed f) (packed_word (candidate (instructions f.size) (prologue_run f))))
 
 -- ---- by the bytes of the record
 

@@ -123,8 +123,8 @@ impl Table<'_> {
 fn look_up(sites: &[u8], place: u64, offset: u64) -> Result<Found, Question>
     ensures { numbered result ≡ with_mark (read_of (site_at sites.now place offset)) (sites_short sites.now place) }
 {
-    // Kept: `let .. else`, here and on `entry_at`'s answer (D121). What `ok_or(..)?` answers is told by two laws (`given` and `lacking` of reader's
-    // proofs/Acting), which would stand here once more.
+    // Kept: `let .. else`, here and on `entry_at`'s answer (D121): each is asked once, and the refusal is named beside it, as document 01 has it for LEB,
+    // operation and header answers.
     let Some(table) = table_at(sites, place) else {
         return Err(Question::CallSiteTable);
     };

@@ -11,7 +11,6 @@ use borrow.Author.Tests.{lt-ltb, le-ltb}
 use Rattle.std.specs.Int.{bytes_low_first}
 use Rattle.std.specs.Prelude.{Result, Ok, Err, Some, None}
 use Rattle.std.specs.Result.{OkIff, result_ok, is_ok}
-use Rattle.std.specs.Option.{is_some}
 use Rattle.format.specs.Prelude.{pick}
 use Rattle.format.specs.Leb.{little}
 use Rattle.format.specs.X64.{node, alloc_bytes, slot_bytes, save_bytes}
@@ -100,21 +99,6 @@ pub in_units : {E : Type 0} (n unit : ℕ) (r : Result ℕ E) → OkIff r (n / u
 unfolding is_near pick
 in_units n unit (Ok x) h e = simp (e, lt-ltb (n / unit) 65536 h.0, h.1)
 in_units n unit (Err x) h e = let g : 65536 ≤ n / unit = either 65536 (n / unit) (λ g. g) (λ l. absurd (h l)) in simp (e, le-ltb (n / unit) 65536 g)
-
-pub some_picked : (b : Bool) (v n : ℕ) → pick b (Some v) None ≡ Some n → (b ≡ true) × (n ≡ v)
-unfolding pick
-some_picked true v n e = (refl, cc)
-some_picked false v n e = absurd (cc)
-
-pub none_picked : (b : Bool) (v : ℕ) → pick b (Some v) None ≡ None → b ≡ false
-unfolding pick
-none_picked true v e = cc
-none_picked false v e = refl
-
-pub is_some_picked : (b : Bool) (v : ℕ) → is_some (pick b (Some v) None) ≡ b
-unfolding pick
-is_some_picked true v = refl
-is_some_picked false v = refl
 
 -- ---- lengths
 

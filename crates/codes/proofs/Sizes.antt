@@ -11,10 +11,10 @@ use Rattle.std.specs.Prelude.{Result, Ok, Err}
 use Rattle.std.specs.Result.{OkIff, result_unwrap_or}
 use Rattle.std.specs.Int.{FitsUnsignedBits}
 use lib.ListN.{length, length-append, replicate, length-replicate}
-use Rattle.format.specs.Prelude.{pick}
 use Rattle.format.specs.declared.Seh.{Seh}
 use Rattle.format.specs.declared.Seh.TheVariants.{Push, Alloc, Frame, Save}
 use Rattle.format.specs.X64.{node, size64, code_bytes, slots, reversed, info_bytes}
+use Rattle.format.proofs.Choice.{picked}
 use Rattle.codes.specs.Codes.{is_near, alloc_size, save_size}
 use Rattle.codes.proofs.Forms.{alloc_length, save-length}
 
@@ -32,11 +32,6 @@ pub record Few (n : ℕ) : Type 0 where
   pub most : n ≤ 6
   pub even : n % 2 ≡ 0
 
-few_pick : (b : Bool) (m n : ℕ) → Few m → Few n → Few (pick b m n)
-unfolding pick
-few_pick true m n s t = s
-few_pick false m n s t = t
-
 two : Few 2
 two = record { least = omega arith; most = omega arith; even = refl }
 
@@ -48,12 +43,12 @@ six = record { least = omega arith; most = omega arith; even = refl }
 
 few_save : (vector : Bool) (above : ℕ) → Few (save_size vector above)
 unfolding save_size
-few_save false above = few_pick (is_near 8 above) 4 6 four six
-few_save true above = few_pick (is_near 16 above) 4 6 four six
+few_save false above = picked Few (is_near 8 above) four six
+few_save true above = picked Few (is_near 16 above) four six
 
 few_alloc : (size : ℕ) → Few (alloc_size size)
 unfolding alloc_size
-few_alloc size = few_pick (leb size 128) 2 _ two (few_pick (ltb (size / 8) 65536) 4 6 four six)
+few_alloc size = picked Few (leb size 128) two (picked Few (ltb (size / 8) 65536) four six)
 
 pub code_few : (at : ℕ) (code : Seh) → Few (length (code_bytes at code))
 unfolding code_bytes node

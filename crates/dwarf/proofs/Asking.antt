@@ -12,6 +12,7 @@ use Rattle.format.specs.Prelude.{all, each, pick}
 use Rattle.format.proofs.Asked.{question_of, said_yes, Asked}
 use Rattle.std.specs.Prelude.{Ok, Err}
 use Rattle.format.specs.Questions.{Question, ask, and_then, size_bytes, encodings_ok, steps_ok, pairs_ok, dwarf_asks, per_function}
+use Rattle.format.proofs.Accepted.{and_then_assoc}
 use Rattle.lists.specs.declared.Extent.{Extent}
 use Rattle.lists.specs.Extents.{meant}
 use Rattle.header_keys.specs.Functions.{body_of}
@@ -31,11 +32,6 @@ then_none = refl
 
 -- ---- those of one function
 
-then_then : (a b c : Question) → and_then a (and_then b c) ≡ and_then (and_then a b) c
-unfolding and_then
-then_then none b c = refl
-then_then (some r) b c = refl
-
 -- a function that passes 21 and 22
 module _ (x : Inputs) (k : ℕ) (e : Extent) (a : ltb e.length (256 ^ size_bytes x.section x.machine.word) ≡ true)
     (b : encodings_ok x.machine.word (body_of e []).landings (body_of e []).named ≡ true) where
@@ -44,7 +40,7 @@ module _ (x : Inputs) (k : ℕ) (e : Extent) (a : ltb e.length (256 ^ size_bytes
 
   lines_first : dwarf_asks x.section x.machine.word k (meant e x.rows [] x.pairs) ≡ and_then (lines_asks x k e) last
   unfolding dwarf_asks lines_asks meant ask and_then pick
-  lines_first = rw (a, b) (then_then (ask (steps_ok 0 (rows_of x e)) 23 k) (ask (whole_in x e) 24 k) last)
+  lines_first = rw (a, b) (and_then_assoc (ask (steps_ok 0 (rows_of x e)) 23 k) (ask (whole_in x e) 24 k) last)
 
   module _ {q : Asked} (c : q ≡ question_of (lines_asks x k e)) where
     pub lines_no : {r : ℕ × ℕ} → q ≡ Err r → Err r ≡ question_of (dwarf_asks x.section x.machine.word k (meant e x.rows [] x.pairs))

@@ -11,6 +11,7 @@ use Rattle.format.specs.Prelude.{each}
 use Rattle.format.specs.Lists.{Function, function_at, functions_of}
 use Rattle.format.specs.Headers.{Key, key_of}
 use Rattle.format.specs.Writer.{Part, taken, part_of, is_empty, parts_from, parts_of, joined, dwarf}
+use Rattle.format.proofs.ListLaws.{map_each}
 use Rattle.lists.specs.Extents.{extent_at}
 use Rattle.lists.proofs.Extents.{means}
 use Rattle.header_keys.proofs.Functions.{taken_means}
@@ -137,11 +138,6 @@ each_same : {A : Type 0} (f g : ℕ → A) (at n : ℕ) → ((i : ℕ) → f i �
 unfolding each
 each_same f g at zero h = refl
 each_same f g at (suc n) h = rw (h at, each_same f g (suc at) n h)
-
-map_each : {A B : Type 0} (g : A → B) (f : ℕ → A) (at n : ℕ) → map g (each f at n) ≡ each (λ i. g (f i)) at n
-unfolding each
-map_each g f at zero = refl
-map_each g f at (suc n) = ap (λ l. g (f at) ∷ l) (map_each g f (suc at) n)
 
 module _ (x : Inputs) where
   pub means_taken : (k : ℕ) → taken x.section (function_at x.functions x.rows x.landings x.pairs k) ≡ function_in x k

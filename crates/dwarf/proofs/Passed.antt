@@ -13,7 +13,7 @@ use Rattle.format.specs.Lists.{field, function_stride, row_stride, landing_strid
 use Rattle.format.specs.declared.Section.{Section}
 use Rattle.format.specs.declared.Section.TheVariants.{Elf, Debug}
 use Rattle.format.proofs.Choice.{pick_yes}
-use Rattle.format.proofs.ListLaws.{chained, in_range, part_of}
+use Rattle.format.proofs.ListLaws.{chained, in_range, part_of, within}
 use Rattle.lists.specs.declared.Personality.{Personality}
 use Rattle.lists.specs.declared.Labels.{Labels}
 use Rattle.lists.specs.declared.Extent.{Extent}
@@ -97,10 +97,6 @@ module _ (fs rows landings pairs : List ℕ) where
   pub of_lists : T (lists_ok fs rows landings pairs) → T (sums_ok fs) × T (all_in (function_ok_at fs rows landings pairs) 0 (count function_stride fs))
   of_lists t = and_yes (sums_ok fs) _ (subst T (lists_is fs rows landings pairs) t)
 
-  within : (at n size : ℕ) → T (inside at n size) → at + n ≤ size
-  unfolding inside
-  within at n size i = leb→le (at + n) size i
-
 -- of the counts
 pub record Counted (fs : List ℕ) : Type 0 where
   pub rows_few : sum_of (λ k. field function_stride fs k 3) 0 (count function_stride fs) ≤ most_records
@@ -137,7 +133,7 @@ module _ (fs rows landings pairs : List ℕ) (few : Counted fs) (k : ℕ) (h : k
     one = outlined fs rows landings pairs k t
 
     rows_within : field function_stride fs k 2 + field function_stride fs k 3 ≤ count row_stride rows
-    rows_within = within fs rows landings pairs _ _ _ one.rows_inside
+    rows_within = within _ _ _ one.rows_inside
 
     pub rows_taken : (s : Section) → (taken_in s (extent_at fs k)).rows_at + (taken_in s (extent_at fs k)).rows ≤ count row_stride rows
     unfolding extent_at
@@ -146,7 +142,7 @@ module _ (fs rows landings pairs : List ℕ) (few : Counted fs) (k : ℕ) (h : k
     landings_ready : LandingsReady (extent_at fs k) landings
     unfolding extent_at
     landings_ready = record {
-      inside = within fs rows landings pairs _ _ _ one.landings_inside;
+      inside = within _ _ _ one.landings_inside;
       few = omega (arith, part_of (λ j. field function_stride fs j 5) (count function_stride fs) k h, few.landings_few);
     }
 
@@ -162,7 +158,7 @@ module _ (fs rows landings pairs : List ℕ) (few : Counted fs) (k : ℕ) (h : k
         (λ m.
         let p : pairs_in fs k ≡ f 17 = pick_yes (mark (f 14)) _ 0 m in
         record {
-          inside = within fs rows landings pairs _ _ _ (one.relaxed m);
+          inside = within _ _ _ (one.relaxed m);
           few = omega (arith, part_of (pairs_in fs) (count function_stride fs) k h, few.pairs_few);
         })
 

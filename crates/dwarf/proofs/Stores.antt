@@ -5,12 +5,12 @@ use native.Mathlib.Omega.{arith}
 use native.Mathlib.Numerals.{add-one}
 use mathlib.Core.List.{List, [], ◌∷◌, ◌++◌}
 use lib.ListN.{length, get_or, set, length-set, get_or-append}
-use lib.Seq.{get_or-append-add, get_or-set_same, get_or-set_other}
+use lib.Seq.{get_or-append-add, get_or-set_same}
 use Rattle.format.specs.Put.{put}
 use Rattle.format.specs.Lists.{numbers_of}
 use Rattle.format.specs.Writer.{Part, joined}
 use Rattle.format.proofs.Choice.{either}
-use Rattle.format.proofs.PutLaws.{◌then◌, idle, kept}
+use Rattle.format.proofs.PutLaws.{◌then◌, idle, kept, put_before}
 use Rattle.owners.specs.Owners.{owner}
 use Rattle.dwarf.specs.declared.Table.{Table}
 use Rattle.header_keys.specs.Inputs.{Inputs}
@@ -23,12 +23,6 @@ use Rattle.dwarf.proofs.Owners.{owner_bound}
 use Rattle.dwarf.proofs.Pieces.{own_part, found_part}
 
 -- ---- what was stored can be read
-
-put_before : (xs : List ℕ) (q : ℕ) (ys : List ℕ) (p : ℕ) → p < q → get_or (put xs q ys) p 0 ≡ get_or xs p 0
-unfolding put
-put_before xs q [] p h = refl
-put_before xs q (y ∷ ys) p h =
-    put_before (set xs q y) (q + 1) ys p (omega arith) ∙ get_or-set_other xs q p y 0 (λ e. omega arith)
 
 put-read : (xs : List ℕ) (p : ℕ) (ys : List ℕ) (j : ℕ) → p + length ys ≤ length xs → j < length ys → get_or (put xs p ys) (p + j) 0 ≡ get_or ys j 0
 unfolding put

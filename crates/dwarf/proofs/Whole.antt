@@ -7,11 +7,11 @@ use mathlib.Core.Option.{none}
 use mathlib.Core.List.{List}
 use lib.Dec.{T}
 use mir.Facts.{yes_and}
-use Rattle.format.specs.Prelude.{pick, all, each}
+use Rattle.format.specs.Prelude.{all, each}
 use Rattle.format.specs.declared.Machine.{Machine}
 use Rattle.format.specs.declared.Section.{Section}
 use Rattle.format.specs.Coded.{Outcome}
-use Rattle.std.specs.Prelude.{Result, Ok, Err}
+use Rattle.std.specs.Prelude.{Ok, Err}
 use Rattle.format.proofs.Asked.{Asked, question_of, said_yes}
 use Rattle.format.specs.Machine.{machine_of, machine_ok}
 use Rattle.format.specs.Lists.{function_ok_at, all_in, lists_ok}
@@ -103,18 +103,6 @@ module _ (x : Inputs) (few : T (sums_ok x.functions)) (p : (k : ℕ) → k < cou
   asked_passed =
       rw (per_all (dwarf_asks x.section x.machine.word) (asked_in x) 0 (count_in x)
       (λ k h. let z : k ≡ 0 + k = omega arith in rw z at (p k h).asked))
-
--- ---- what the machine read says of question 11
-
-pub read_yes : {M Q : Type 0} (b : Bool) (x : M) (q : Q) {r : Result M Q} {y : M} → r ≡ Ok y → r ≡ pick b (Ok x) (Err q) → (b ≡ true) × (y ≡ x)
-unfolding pick
-read_yes true x q e h = (refl, cc)
-read_yes false x q e h = cc
-
-pub read_no : {M Q : Type 0} (b : Bool) (x : M) (q : Q) {r : Result M Q} {p : Q} → r ≡ Err p → r ≡ pick b (Ok x) (Err q) → (b ≡ false) × (p ≡ q)
-unfolding pick
-read_no true x q e h = cc
-read_no false x q e h = (refl, cc)
 
 -- ---- the answers
 

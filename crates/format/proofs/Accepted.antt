@@ -71,6 +71,11 @@ unfolding and_then
 both none q e = (refl, e)
 both (some r) q e = let z : ◌≡◌ {A = ℕ} 0 1 = cc in absurd (omega arith)
 
+pub and_then_assoc : (p q r : Question) → and_then p (and_then q r) ≡ and_then (and_then p q) r
+unfolding and_then
+and_then_assoc none q r = refl
+and_then_assoc (some x) q r = refl
+
 pub passed : (q : Question) (a : Answer) (w : Written) → unless q a ≡ accepted w → (q ≡ none) × (a ≡ accepted w)
 unfolding unless
 passed none a w e = (refl, e)

@@ -5,6 +5,7 @@ use native.Mathlib.Omega.{arith}
 use mathlib.Core.Option.{Option, none, some}
 use Rattle.std.specs.Prelude.{Some, None, Ok, Err}
 use Rattle.std.specs.Prelude as code
+use Rattle.std.specs.Option.{ok_or}
 use Rattle.format.specs.Questions.{is_some}
 
 -- a value, where there is one, as the code has it
@@ -45,3 +46,12 @@ pub some_is : (o : Option ℕ) → code.is_some (option_of o) ≡ is_some o
 unfolding is_some
 some_is none = refl
 some_is (some n) = refl
+
+-- what stands in front of a `?`: the value that was there, or that there was none and by what is refused
+pub given : {A Q : Type 0} (o : code.Option A) (q : Q) {x : A} → ok_or o q ≡ Ok x → o ≡ Some x
+given None q e = absurd cc
+given (Some y) q e = cc
+
+pub lacking : {A Q : Type 0} (o : code.Option A) (q : Q) {e : Q} → ok_or o q ≡ Err e → (o ≡ None) × (q ≡ e)
+lacking None q e = (refl, cc)
+lacking (Some y) q e = absurd cc

@@ -10,17 +10,18 @@ use lib.Dec.{T, eqb_refl, lt→ltb}
 use lib.IntN.{ℤ, pos, negsuc}
 use mir.Facts.{and_yes, yes_eqb}
 use Rattle.format.specs.Prelude.{pick, next, after}
-use Rattle.format.specs.Leb.{uleb, sleb, fits64}
+use Rattle.format.specs.Leb.{sleb, fits64}
 use Rattle.format.specs.declared.Machine.{Machine}
 use Rattle.format.specs.Machine.{is_word_size}
-use Rattle.format.specs.Rows.{read_register, same_offset}
+use Rattle.format.specs.Rows.{same_offset}
 use Rattle.format.specs.Lists.{Landing, Named, Pointer}
 use Rattle.format.specs.Headers.{Kind, plain, personal, named, Key, encoding_of, named_kind, kind_for, size_of, pointer_size, pointer_bytes, letters, augmentation, lsda_letter, augmentation_data, header_data, header_id, data_factor, header_fields}
 use Rattle.format.specs.Reader.{second, is_header, strip, Letters, spelled, spellings, spell_or, read_letters, read_byte, read_many, personality_in, lsda_in, letters_in, header_tail, require, parse_header}
 use Rattle.format.specs.Questions.{is_some, lsda_ok, named_ok, encodings_ok}
-use Rattle.format.proofs.Choice.{pick_yes, if-le}
+use Rattle.format.proofs.Choice.{pick_yes}
 use Rattle.format.proofs.LebBack.{little_back, little-length, uleb_back, sleb_back, uleb_short, sleb_short_neg}
 use Rattle.format.proofs.FieldsBack.{word_small, pointer_size_lem, pointer_small, many_back, counted_back, counted_short, second_back}
+use Rattle.format.proofs.RowBack.{register_back}
 
 -- ---- what a header needs
 
@@ -156,10 +157,6 @@ same_self (pos n) = eqb_refl n
 same_self (negsuc n) = eqb_refl n
 
 -- ---- the whole
-
-pub register_back : (n : ℕ) (rest : List ℕ) → n < 65536 → read_register (uleb n ++ rest) ≡ some (n, rest)
-unfolding read_register next
-register_back n rest h = let k : n ≤ 65535 = omega arith in rw (uleb_back n rest (omega arith)) (rw (if-le n 65535))
 
 pub id_small : (debug : Bool) → header_id debug < 2 ^ 32
 unfolding header_id pick

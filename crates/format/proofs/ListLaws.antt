@@ -10,7 +10,7 @@ use lib.ListN.{length, get_or, get_elem?}
 use lib.Dec.{T, leb, ltb, eqb, leb→le, ltb→lt}
 use mir.Facts.{and_yes}
 use Rattle.format.specs.Prelude.{pick, all, each}
-use Rattle.format.specs.Lists.{Relocation, field, relocation_stride, relocation_at, relocations_of, numbers_of, has_register, has_offset, second_operands, row_ok, all_in, sum_of, symbol_ok}
+use Rattle.format.specs.Lists.{Relocation, field, relocation_stride, relocation_at, relocations_of, numbers_of, has_register, has_offset, second_operands, row_ok, all_in, sum_of, symbol_ok, inside}
 
 -- ---- a function at each number of a range
 
@@ -40,6 +40,11 @@ module _ {A : Type 0} where
   unfolding each
   each_shift f g at zero h = refl
   each_shift f g at (suc n) h = rw (h at, each_shift f g (suc at) n h)
+
+  pub map_each : {B : Type 0} (g : A → B) (f : ℕ → A) (at n : ℕ) → map g (each f at n) ≡ each (λ i. g (f i)) at n
+  unfolding each
+  map_each g f at zero = refl
+  map_each g f at (suc n) = ap (λ l. g (f at) ∷ l) (map_each g f (suc at) n)
 
   pub get_map : {B : Type 0} (f : A → B) (xs : List A) (k : ℕ) (a : A) → get_elem? xs k ≡ some a → get_elem? (map f xs) k ≡ some (f a)
   get_map f [] k a e = let z : ◌≡◌ {A = ℕ} 0 1 = cc in absurd (omega arith)
@@ -122,6 +127,10 @@ sum_part f at (suc n) (suc k) h =
 pub part_of : (f : ℕ → ℕ) (n k : ℕ) → k < n → f k ≤ sum_of f 0 n
 part_of f n k h = let e : 0 + k ≡ k = omega arith in rw e at (sum_part f 0 n k h)
 
+pub within : (at n size : ℕ) → T (inside at n size) → at + n ≤ size
+unfolding inside
+within at n size t = leb→le (at + n) size t
+
 pub symbol_small : (n : ℕ) → T (symbol_ok n) → n < 2 ^ 32
 unfolding symbol_ok
 symbol_small n t = ltb→lt n (2 ^ 32) (and_yes (leb 16 n) (ltb n (2 ^ 32)) t).1
@@ -162,6 +171,12 @@ row_numbers kind reg off t =
       off_low = second_low kind off (says 2 t);
       other_low = λ e. second_register off (subst (λ (k : ℕ). T (ltb off (second_operands k))) e (says 2 t));
     }
+
+-- ---- how long a list is
+
+pub none_held : {A : Type 0} (xs : List A) → (0 < length xs → ⊥) → xs ≡ []
+none_held [] n = refl
+none_held (x ∷ xs) n = absurd (n (omega arith))
 
 -- what a list has at a place stands inside it
 pub found_inside : {A : Type 0} (xs : List A) (k : ℕ) {a : A} → get_elem? xs k ≡ some a → k < length xs

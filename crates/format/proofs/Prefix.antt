@@ -19,7 +19,7 @@ use Rattle.format.specs.Lists.{relocations_of}
 use Rattle.format.specs.Rules.{State, blank, act, seen, answer}
 use Rattle.format.specs.Reader.{Found, perform, when_read, run_f, run, locate, run_to, read_section, read}
 use Rattle.format.proofs.Choice.{if-le, if-gt, either}
-use Rattle.format.proofs.WalkBack.{onward_ext}
+use Rattle.format.proofs.Onward.{onward_ext}
 
 -- ---- what is answered
 

@@ -5,8 +5,8 @@ use Prim.Native.Nat.{ℕ, suc, ◌+◌, ◌≤◌, ◌<◌}
 use native.Mathlib.Nat.{add-zero, zero-add}
 use native.Mathlib.Numerals.{add-one}
 use native.Mathlib.Omega.{arith}
-use lib.ListN.{length, take, set, length-set, length-append}
-use lib.Seq.{set_comm, set-set, take-suc-set}
+use lib.ListN.{length, take, set, length-set, length-append, get_or}
+use lib.Seq.{set_comm, set-set, take-suc-set, get_or-set_other}
 use Rattle.format.specs.Put.{put}
 use Rattle.format.proofs.Wrote.{Wrote}
 
@@ -36,6 +36,12 @@ put-append xs p [] bs = rw add-zero
 put-append xs p (u ∷ us) bs =
     let e : p + 1 + length us ≡ p + length (u ∷ us) = omega arith in
     put-append (set xs p u) (p + 1) us bs ∙ ap (λ (n : ℕ). put (put (set xs p u) (p + 1) us) n bs) e
+
+-- in front of what was stored the buffer is as it was
+pub put_before : (xs : List ℕ) (p : ℕ) (bs : List ℕ) (q : ℕ) → q < p → get_or (put xs p bs) q 0 ≡ get_or xs q 0
+unfolding put
+put_before xs p [] q h = refl
+put_before xs p (b ∷ bs) q h = put_before (set xs p b) (p + 1) bs q (omega arith) ∙ get_or-set_other xs p q b 0 (λ e. omega arith)
 
 -- a store in front of a run may go first
 pub set-put : (xs : List ℕ) (p v q : ℕ) (bs : List ℕ) → p < q → set (put xs q bs) p v ≡ put (set xs p v) q bs

@@ -52,9 +52,9 @@ factor_back w (negsuc n) t = rw (exact w (suc n) (eqb→eq (suc n % w) 0 t))
 
 -- ---- the parts of an operation
 
-pub reg_back : (reg : ℕ) (rest : List ℕ) → reg < 65536 → read_register (uleb reg ++ rest) ≡ some (reg, rest)
+pub register_back : (reg : ℕ) (rest : List ℕ) → reg < 65536 → read_register (uleb reg ++ rest) ≡ some (reg, rest)
 unfolding read_register next
-reg_back reg rest h = rw (uleb_back reg rest (omega arith)) (let k : reg ≤ 0xffff = omega arith in rw if-le)
+register_back reg rest h = rw (uleb_back reg rest (omega arith)) (let k : reg ≤ 0xffff = omega arith in rw if-le)
 
 offset_back : (n : ℕ) (rest : List ℕ) → n < 2 ^ 63 → read_offset (uleb n ++ rest) ≡ some (pos n, rest)
 unfolding read_offset in_range next fits64
@@ -136,17 +136,17 @@ saved_back w reg (pos n) rest hr hf hu =
     let k : n < 2 ^ 64 = omega (arith, ltb→lt n (2 ^ 63) hf) in
     either reg 63
     (λ l. rw (if-le reg 63) (rw (op_saved w reg _ l, factored_back w n rest k hu)))
-    (λ g. rw (if-gt reg 63, append_assoc, reg_back reg _ hr, factored_back w n rest k hu))
-saved_back w reg (negsuc n) rest hr hf hu = rw (append_assoc, reg_back reg _ hr, signed_back w (negsuc n) rest hf hu)
+    (λ g. rw (if-gt reg 63, append_assoc, register_back reg _ hr, factored_back w n rest k hu))
+saved_back w reg (negsuc n) rest hr hf hu = rw (append_assoc, register_back reg _ hr, signed_back w (negsuc n) rest hf hu)
 
 cfa_back : (w reg : ℕ) (z : ℤ) (rest : List ℕ) → reg < 65536 → Off32 z → T (whole_below w z)
     → read_operation w (cfa_bytes w 0x0c 0x12 (uleb reg) z ++ rest) ≡ some (Does (DefCfa reg z), rest)
 unfolding read_operation read_extended one two cfa_bytes whole_below next pick
-cfa_back w reg (pos n) rest hr h t = rw (append_assoc, reg_back reg _ hr, offset_back n rest (omega arith))
+cfa_back w reg (pos n) rest hr h t = rw (append_assoc, register_back reg _ hr, offset_back n rest (omega arith))
 cfa_back w reg (negsuc n) rest hr h t =
     rw (
       append_assoc,
-      reg_back reg _ hr,
+      register_back reg _ hr,
       signed_back w (factor w (negsuc n)) rest (factor_fits w (negsuc n) h) (unfactor_fits w (negsuc n) h t),
       factor_back w (negsuc n) t,
     )
@@ -161,23 +161,23 @@ cfa_offset_back w (negsuc n) rest h t =
 restore_back : (w reg : ℕ) (rest : List ℕ) → reg < 65536 → read_operation w (with_register 0xc0 0x06 reg [] ++ rest) ≡ some (Does (Restore reg), rest)
 unfolding read_operation read_extended one with_register next pick
 restore_back w reg rest hr =
-    either reg 63 (λ l. rw (if-le reg 63, op_restore w reg rest l)) (λ g. rw (if-gt reg 63, append_assoc, reg_back reg _ hr))
+    either reg 63 (λ l. rw (if-le reg 63, op_restore w reg rest l)) (λ g. rw (if-gt reg 63, append_assoc, register_back reg _ hr))
 
 pub row_back : (w : ℕ) (r : Row) (rest : List ℕ) → RowFits w r → read_operation w (row_bytes w r ++ rest) ≡ some (Does r, rest)
 unfolding row_bytes read_operation read_extended one two next pick kind_of reg_of offset_of other_of row_whole
 row_back w (DefCfa reg z) rest h = cfa_back w reg z rest h.reg h.off h.whole
 row_back w (DefCfaOffset z) rest h = cfa_offset_back w z rest h.off h.whole
-row_back w (DefCfaRegister reg) rest h = rw (reg_back reg rest h.reg)
+row_back w (DefCfaRegister reg) rest h = rw (register_back reg rest h.reg)
 row_back w (Offset reg z) rest h =
     saved_back w reg (factor w z) rest h.reg (factor_fits w z h.off) (unfactor_fits w z h.off h.whole)
     ∙ ap (λ (y : ℤ). some (Does (Offset reg y), rest)) (factor_back w z h.whole)
 row_back w (Restore reg) rest h = restore_back w reg rest h.reg
-row_back w (Undefined reg) rest h = rw (reg_back reg rest h.reg)
+row_back w (Undefined reg) rest h = rw (register_back reg rest h.reg)
 row_back w RememberState rest h = refl
 row_back w RestoreState rest h = refl
 row_back w NegateRaState rest h = refl
-row_back w (SameValue reg) rest h = rw (reg_back reg rest h.reg)
-row_back w (InRegister reg other) rest h = rw (append_assoc, reg_back reg _ h.reg, reg_back other rest h.other)
+row_back w (SameValue reg) rest h = rw (register_back reg rest h.reg)
+row_back w (InRegister reg other) rest h = rw (append_assoc, register_back reg _ h.reg, register_back other rest h.other)
 
 -- ---- steps
 

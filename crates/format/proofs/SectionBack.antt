@@ -25,7 +25,7 @@ use Rattle.format.proofs.EntryBack.{padded_behind}
 use Rattle.format.proofs.FieldsBack.{word_small}
 use Rattle.format.proofs.HeaderBack.{pointer_in, header_back}
 use Rattle.format.proofs.RecordBack.{record_back, pointer_within, blank_small}
-use Rattle.format.proofs.WalkBack.{onward_ext, rows_at_back, rows_back}
+use Rattle.format.proofs.WalkBack.{rows_at_back, rows_back}
 use Rattle.format.proofs.ShortBack.{rows_shortest, stepped_shortest, header_shortest, record_shortest}
 use Rattle.format.proofs.Fits.{MachineFits, FunctionFits, AllFit, Bounded}
 use Rattle.format.proofs.Leading.{others_ok, leading_ok}
@@ -33,6 +33,7 @@ use Rattle.format.proofs.Parts.{header_body, record_body, Spot, cie_of, place_of
 use Rattle.format.proofs.SectionSize.{header_ok}
 use Rattle.format.proofs.SectionTiles.{header_entry, record_entry, Holds, section_tiles}
 use Rattle.format.proofs.SectionFinds.{spot_at, record_missing, record_holds, record_found, header_found, header_by_distance, header_by_relocation}
+use Rattle.format.proofs.Onward.{onward_ext}
 
 size_bytes_lem : (s : Section) (word : ℕ) → pick (is_debug s) word 4 ≡ size_bytes s word
 unfolding is_debug size_bytes pick

@@ -8,7 +8,7 @@ use mathlib.Core.Option.{some}
 use mathlib.Core.List.{List, [], ◌∷◌, ◌++◌, append_assoc}
 use lib.ListN.{length, replicate, length-append, length-replicate}
 use lib.Dec.{leb}
-use Rattle.format.specs.Prelude.{pick, Result, good, bad, onward}
+use Rattle.format.specs.Prelude.{pick, Result, good, onward}
 use Rattle.format.specs.declared.Row.{Row}
 use Rattle.format.specs.declared.Rule.{Rule}
 use Rattle.format.specs.declared.Operation.{Operation}
@@ -19,6 +19,7 @@ use Rattle.format.specs.Reader.{perform, when_read, run_f, run}
 use Rattle.format.proofs.RowsRun.{act_all, while}
 use Rattle.format.proofs.Choice.{if-le, if-gt, either}
 use Rattle.format.proofs.RowBack.{RowFits, row_back, steps_back, step_none}
+use Rattle.format.proofs.Onward.{onward_ext}
 
 -- ---- which rows are written
 
@@ -32,11 +33,6 @@ RowsOk w [] = Unit
 RowsOk w (r ∷ rs) = RowFits w r × RowsOk w rs
 
 -- ---- one operation
-
-pub onward_ext : {A B : Type 0} (a : Result A) (k l : A → Result B) → ((t : A) → k t ≡ l t) → onward a k ≡ onward a l
-unfolding onward
-onward_ext (good a) k l h = h a
-onward_ext (bad n) k l h = refl
 
 pub pick_over : {A B : Type 0} (f : A → B) (b : Bool) (x y : A) → pick b (f x) (f y) ≡ f (pick b x y)
 unfolding pick

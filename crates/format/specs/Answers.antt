@@ -9,7 +9,7 @@ use Rattle.format.specs.declared.Rule.TheVariants.{Unstated, Undefined, Saved, S
 use Rattle.format.specs.Coded.{Reading}
 use Rattle.std.specs.Prelude.{Ok, Err}
 use Rattle.format.specs.Coded.{Outcome}
-use Rattle.std.specs.Prelude.{Some, None, Ok, Err}
+use Rattle.std.specs.Prelude.{Some, None}
 use Rattle.format.specs.Writer.{Written}
 use Rattle.format.specs.Lists.{numbers_of}
 use Rattle.format.specs.Put.{put}

@@ -1,5 +1,5 @@
 -- The loops over the leading rows: what they know at each turn, and how many bytes the rows have.
-use mathlib.Core.Path.{◌≡◌, refl, sym, ap, ◌∙◌}
+use mathlib.Core.Path.{◌≡◌, refl, ap}
 use mathlib.Core.List.{List, [], ◌∷◌, ◌++◌}
 use Prim.Native.Nat.{ℕ, zero, suc, ◌+◌, ◌*◌, ◌≤◌, ◌<◌}
 use native.Mathlib.Numerals.{add-one}
@@ -13,9 +13,7 @@ use Rattle.format.specs.declared.Row.TheVariants.{RememberState}
 use Rattle.format.specs.Rows.{row_bytes, rows_bytes}
 use Rattle.format.specs.Lists.{row_at, most_records}
 use Rattle.format.specs.Headers.{leading}
-use Rattle.format.proofs.PutLaws.{put-append}
-use Rattle.format.proofs.PutLaws as stores
-use Rattle.format.proofs.Storing.{Storing}
+use Rattle.format.proofs.Storing.{Storing, stored_next}
 use Rattle.format.proofs.Storing as storing
 use Rattle.format.proofs.ListLaws.{each-length}
 use Rattle.format.proofs.Sizes.{rows_short}
@@ -46,18 +44,6 @@ pub record Rowing (w : ℕ) (rs : List Row) (xs₀ xs : List ℕ) (at p i : ℕ)
 pub start : {w : ℕ} {rs : List Row} {xs : List ℕ} {at : ℕ} → at + length (rows_bytes w rs) ≤ length xs → Rowing w rs xs xs at at 0
 start h = record { bytes = storing.start h }
 
--- several bytes at once
-stored : {xs₀ xs ys : List ℕ} {p i q : ℕ} {all : List ℕ} (us left : List ℕ) → Storing xs₀ xs p i all (us ++ left) → Wrote xs ys i q us → Storing xs₀ ys p q all left
-stored {xs₀} {xs} {ys} {p} {i} {q} {all} us left c s =
-    let l = length-append us left in
-    let k : length ys ≡ length xs = stores.kept s in
-    record {
-      kept = k ∙ c.kept;
-      place = omega (arith, c.place, s.past, l);
-      room = omega (arith, c.room, s.past, l, k);
-      same = rw (s.stored, s.past) (sym (put-append xs i us left) ∙ c.same);
-    }
-
 module _ {w : ℕ} {rs : List Row} {xs₀ xs : List ℕ} {at p i : ℕ} (c : Rowing w rs xs₀ xs at p i) where
   module _ {r : Row} (h : i < length rs) (e : r ≡ get_or rs i RememberState) where
     next : Storing xs₀ xs at p (rows_bytes w rs) (row_bytes w r ++ rows_bytes w (drop (i + 1) rs))
@@ -67,7 +53,7 @@ module _ {w : ℕ} {rs : List Row} {xs₀ xs : List ℕ} {at p i : ℕ} (c : Row
     room = omega (arith, next.room, length-append (row_bytes w r) (rows_bytes w (drop (i + 1) rs)))
 
     pub turn : {ys : List ℕ} {q : ℕ} → Wrote xs ys p q (row_bytes w r) → Rowing w rs xs₀ ys at q (i + 1)
-    turn s = record { bytes = stored (row_bytes w r) (rows_bytes w (drop (i + 1) rs)) next s }
+    turn s = record { bytes = stored_next (row_bytes w r) next s }
 
   pub ended : length rs ≤ i → Wrote xs₀ xs at p (rows_bytes w rs)
   ended h = storing.ended (rw (row_last w rs i h) at c.bytes)

@@ -2,12 +2,12 @@
 use mathlib.Core.Path.{◌≡◌, refl, ◌∙◌}
 use Prim.Native.Nat.{ℕ, ◌+◌, ◌-◌, ◌*◌, ◌/◌, ◌≤◌, ◌<◌}
 use native.Mathlib.Omega.{arith}
-use mathlib.Core.Bool.{Bool, true, false}
+use mathlib.Core.Bool.{true, false}
 use mathlib.Core.List.{List}
 use lib.ListN.{length}
 use lib.Dec.{T, leb}
 use Rattle.format.specs.Prelude.{pick, good, bad}
-use Rattle.format.proofs.Choice.{if-le, if-gt, if-eq, if-ne}
+use Rattle.format.proofs.Choice.{if-le, if-gt, if-eq, if-ne, when_true, when_false}
 use Rattle.reader.specs.Spans.{part}
 use Rattle.reader.specs.Finds.{in_section}
 use Rattle.reader.proofs.Asked.{fits}
@@ -19,14 +19,6 @@ use Rattle.listing.specs.Lines.{Lines, lines_of, along, listed_as, list_after, L
 -- the lines of the places that l has
 abbrev pub lines_at : List ℕ → Located → Lines
 lines_at s l = lines_of l.word (part s l.header l.header_end) (part s l.record l.record_end)
-
-said : {A : Type 0} (b : Bool) (x y : A) → b ≡ true → pick b x y ≡ x
-unfolding pick
-said b x y e = rw e refl
-
-denied : {A : Type 0} (b : Bool) (x y : A) → b ≡ false → pick b x y ≡ y
-unfolding pick
-denied b x y e = rw e refl
 
 module _ (s : List ℕ) (l : Located) (q : ℕ) (old : List ℕ) where
   -- a refusal leaves the list as it is
@@ -42,7 +34,7 @@ module _ (s : List ℕ) (l : Located) (q : ℕ) (old : List ℕ) where
     -- 64
     pub outside : in_section s (reader_places l) ≡ false → Lists q (along s l (length old)) (record { number = 64; lines = 0; ending = 0; from = 0 }) old old
     unfolding along
-    outside e = no (if-eq l.number 0 _ (bad l.number) z ∙ denied (in_section s (reader_places l)) _ (bad 64) e)
+    outside e = no (if-eq l.number 0 _ (bad l.number) z ∙ when_false (in_section s (reader_places l)) _ (bad 64) e)
 
     module _ (e : in_section s (reader_places l) ≡ true) where
       room_asked : along s l (length old) ≡ pick (leb (7 * (l.record_end - l.record + 1)) (length old)) (good (lines_at s l)) (bad 54)
@@ -51,7 +43,7 @@ module _ (s : List ℕ) (l : Located) (q : ℕ) (old : List ℕ) where
           if-eq l.number 0
           (pick (in_section s (reader_places l)) (pick (leb (7 * (l.record_end - l.record + 1)) (length old)) (good (lines_at s l)) (bad 54)) (bad 64))
           (bad l.number) z
-          ∙ said (in_section s (reader_places l)) (pick (leb (7 * (l.record_end - l.record + 1)) (length old)) (good (lines_at s l)) (bad 54)) (bad 64) e
+          ∙ when_true (in_section s (reader_places l)) (pick (leb (7 * (l.record_end - l.record + 1)) (length old)) (good (lines_at s l)) (bad 54)) (bad 64) e
 
       -- 54
       pub short : length old / 7 ≤ l.record_end - l.record → Lists q (along s l (length old)) (record { number = 54; lines = 0; ending = 0; from = 0 }) old old

@@ -18,6 +18,7 @@ use Rattle.format.specs.Rules.{State, blank, act, answer}
 use Rattle.format.specs.Reader as reader
 use Rattle.format.specs.Reader.{perform, run_f, run, run_to}
 use Rattle.format.proofs.Choice.{if-le, if-gt, if-eq, if-ne, either}
+use Rattle.format.proofs.Onward.{onward_ext}
 use Rattle.reader.specs.Spans.{part}
 use Rattle.reader.specs.Finds.{in_section, rules_from}
 use Rattle.reads.specs.declared.Located.{Located}
@@ -170,18 +171,13 @@ module _ (word p : ℕ) (initial : ℕ → Rule) (k : ℕ → State → Lines) (
 
 -- ---- the whole
 
-onward_ends : {A : Type 0} (r : Result A) (f g : A → Result State) → ((t : A) → f t ≡ g t) → onward r f ≡ onward r g
-unfolding onward
-onward_ends (good t) f g h = h t
-onward_ends (bad n) f g h = refl
-
 -- at every offset the lines hold what the reader's run gives there
 pub run_holds : (word p : ℕ) (h r : List ℕ) → p ≤ highest
     → holding p (lines_of word h r) ≡ onward (run true word p blank.current.rules blank h) λ t. run false word p t.current.rules t r
 unfolding lines_of record_lines run
 run_holds word p h r low =
     headed word p blank.current.rules (record_lines word r) 0 (length h) blank h
-    ∙ onward_ends (run_f true word p blank.current.rules (length h) 0 blank h) _ _ λ t. holds word t.current.rules p low (length r) 0 t r (omega arith)
+    ∙ onward_ext (run_f true word p blank.current.rules (length h) 0 blank h) _ _ λ t. holds word t.current.rules p low (length r) 0 t r (omega arith)
 
 right : {A : Type 0} (b : Bool) (x : Result A) (n : ℕ) (a : A) → pick b x (bad n) ≡ good a → (b ≡ true) × (x ≡ good a)
 unfolding pick

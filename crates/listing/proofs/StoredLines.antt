@@ -3,9 +3,9 @@ use mathlib.Core.Path.{◌≡◌, refl, sym, ap, subst, ◌∙◌}
 use Prim.Native.Nat.{ℕ, ◌+◌, ◌*◌, ◌/◌, ◌≤◌, ◌<◌}
 use native.Mathlib.Omega.{arith}
 use mathlib.Core.Bool.{false}
-use mathlib.Core.List.{List, [], ◌∷◌, ◌++◌}
+use mathlib.Core.List.{List, [], ◌∷◌}
 use lib.ListN.{length, take, drop, set, length-append}
-use lib.Seq.{set_comm, set-set}
+use lib.Seq.{set_comm, set-set, take-append_seam}
 use Rattle.format.specs.Prelude.{good}
 use Rattle.format.specs.Put.{put}
 use Rattle.format.specs.Answers.{cfa_numbers, rule_numbers, reading_numbers, marked_numbers}
@@ -41,17 +41,13 @@ line_long at (Register r z) (rule.InRegister reg) a e f = rw (e, f) refl
 pub line_length : (at : ℕ) (a : Rules) → length (line_numbers at a) ≡ 7
 line_length at a = line_long at a.cfa a.rule a refl refl
 
-take-front : (xs ys : List ℕ) → take (length xs) (xs ++ ys) ≡ xs
-take-front [] ys = refl
-take-front (x ∷ xs) ys = ap (λ (l : List ℕ). x ∷ l) (take-front xs ys)
-
 -- a line has no mark
 line_is : (at : ℕ) (n : Numbers) (a : Rules) → read_numbers n ≡ marked_numbers (Ok a) false
     → at ∷ n.frame ∷ n.frame_register ∷ n.frame_offset ∷ n.rule ∷ n.rule_value ∷ n.signing ∷ [] ≡ line_numbers at a
 unfolding reading_numbers marked_numbers line_numbers
 line_is at n a e =
     let front : take 7 (marked_numbers (Ok a) false) ≡ reading_numbers (Ok a) =
-    subst (λ (k : ℕ). take k (marked_numbers (Ok a) false) ≡ reading_numbers (Ok a)) (line_length 0 a) (take-front (reading_numbers (Ok a)) _) in
+    subst (λ (k : ℕ). take k (marked_numbers (Ok a) false) ≡ reading_numbers (Ok a)) (line_length 0 a) (take-append_seam (reading_numbers (Ok a)) _) in
     ap (λ (l : List ℕ). at ∷ drop 1 (take 7 l)) e ∙ ap (λ (l : List ℕ). at ∷ drop 1 l) front
 
 -- the numbers of a reading, stored behind an offset

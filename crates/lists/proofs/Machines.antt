@@ -1,10 +1,10 @@
 -- The numbers of a machine's map, asked and copied one after another.
-use mathlib.Core.Path.{◌≡◌, refl, sym, ap, subst, ◌∙◌}
+use mathlib.Core.Path.{◌≡◌, refl, sym, subst, ◌∙◌}
 use Prim.Native.Nat.{ℕ, zero, suc, ◌+◌, ◌≤◌, ◌<◌}
 use native.Mathlib.Omega.{arith}
 use native.Mathlib.Numerals.{add-one}
 use native.Mathlib.Nat.{le_of_suc-le-suc}
-use mathlib.Core.Bool.{Bool, true, ◌&&◌, and-false}
+use mathlib.Core.Bool.{Bool, true, and-false}
 use mathlib.Core.List.{List, [], ◌∷◌}
 use borrow.Author.Tests.{lt-leb}
 use lib.Dec.{T, leb, leb→le}
@@ -12,15 +12,8 @@ use lib.ListN.{length, get_or, take, drop, set, replicate, length-set, length-ta
 use lib.Seq.{take-suc, take-suc-set, take_all, get_or-take, get_or-drop}
 use mir.Facts.{and_yes}
 use Rattle.format.specs.Prelude.{all}
-use Rattle.std.specs.List.{list_all}
 use Rattle.format.specs.Machine.{is_word_size, machine_of, machine_ok}
 use Rattle.format.proofs.Choice.{either, tested, is_false}
-
--- a test that every element passes, as the library's `all` asks it
-pub asked : (test : ℕ → Bool) (xs : List ℕ) → list_all test xs ≡ all test xs
-unfolding all
-asked test [] = refl
-asked test (x ∷ xs) = ap (λ b. test x && b) (asked test xs)
 
 abbrev pub is_byte : ℕ → Bool
 is_byte n = leb n 255

@@ -1,9 +1,9 @@
 -- The first number that passes a test and the last one, and what an owner of a header is to other functions.
-use mathlib.Core.Path.{◌≡◌, refl, sym, ap, subst, ◌∙◌}
+use mathlib.Core.Path.{◌≡◌, refl, sym, ap, ◌∙◌}
 use Prim.Native.Nat.{ℕ, zero, suc, ◌+◌, ◌≤◌, ◌<◌}
 use native.Mathlib.Omega.{arith}
 use native.Mathlib.Numerals.{add-one}
-use mathlib.Core.Bool.{Bool, true, false, not, and-false}
+use mathlib.Core.Bool.{Bool, true, false, and-false}
 use borrow.Author.Tests.{eq-eqb, ne_eqb}
 use lib.Dec.{T, eqb}
 use mir.Facts.{and_yes, eqb_yes}
@@ -15,13 +15,7 @@ use Rattle.header_keys.specs.Inputs.{Inputs}
 use Rattle.owners.specs.Owners.{key_at, first_from, owner}
 use Rattle.owners.specs.Chains.{slot_at, last_in, held_in, last_held}
 use Rattle.owners.proofs.Finding.{shares, Finding, start, missed, found, ended, owner_low}
-
-both : (b : Bool) → b ≡ true → b ≡ false → ⊥
-both true p q = subst T q tt
-both false p q = subst T (sym p) tt
-
-pub no_of : {b : Bool} → b ≡ false → T (not b)
-no_of e = subst (λ b. T (not b)) (sym e) tt
+use Rattle.std.proofs.lemmas.Bool.{both_ways}
 
 -- ---- the first
 
@@ -131,7 +125,7 @@ module _ (x : Inputs) where
       let e : test o ≡ true = passes test 0 k (omega arith) in
       let own : first_from (shares x o) 0 o ≡ o =
       sym (none_first (shares x o) o (λ i h. same_test k o i e ∙ before test 0 k i (omega arith) h)) in
-      absurd (both (test o) e (f o q own)))
+      absurd (both_ways (test o) (f o q own) e))
 
   -- an owner has a header of its own
   pub owner_owns : (k : ℕ) → owner x (owner x k) ≡ owner x k
@@ -184,5 +178,5 @@ module _ (x : Inputs) where
       (λ t.
       let e : slot_at x size j ≡ slot_at x size k = one_slot size k j (is_true _ t) in
       let f : held_in x size (slot_at x size k) j ≡ false = last_none (held_in x size (slot_at x size k)) i j l h in
-      absurd (both _ (held_here size (slot_at x size k) j o e) f))
+      absurd (both_ways _ f (held_here size (slot_at x size k) j o e)))
       (λ t. is_false _ t)

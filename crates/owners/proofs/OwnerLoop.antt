@@ -14,7 +14,8 @@ use Rattle.header_keys.specs.Inputs.{Inputs}
 use Rattle.owners.specs.Owners.{owner}
 use Rattle.owners.specs.Chains.{slot_at, last_in, held_in, last_held, Linked, Chained, Owned, OwnersFound, Enough, Unused}
 use Rattle.owners.proofs.Finding.{owner_low}
-use Rattle.owners.proofs.Firsts.{held_here, held_not, not_owner, no_of}
+use Rattle.owners.proofs.Firsts.{held_here, held_not, not_owner}
+use Rattle.std.specs.Bool.{fails}
 
 module _ {x : Inputs} {size k : ℕ} {heads links owners : List ℕ} (c : OwnersFound x size k heads links owners)
     (g : Enough (k + 1) size links owners) {o : ℕ} (e : o ≡ owner x k) where
@@ -38,7 +39,7 @@ module _ {x : Inputs} {size k : ℕ} {heads links owners : List ℕ} (c : Owners
     unfolding last_in
     heads_stay i l =
         c.heads_last i l
-        ∙ rw (add-one k) (sym (pick_no (held_in x size i k) k _ (no_of (not_owner x size i k (λ d. n (e ∙ d))))))
+        ∙ rw (add-one k) (sym (pick_no (held_in x size i k) k _ (fails _ (not_owner x size i k (λ d. n (e ∙ d))))))
 
     pub inherits : OwnersFound x size (k + 1) heads links (set owners k o)
     inherits = record {
@@ -109,7 +110,7 @@ module _ {x : Inputs} {size k : ℕ} {heads links owners : List ℕ} (c : Owners
           rw (add-one k)
           (get_or-set_other heads h i k 0 z
           ∙ (c.heads_last i l
-          ∙ sym (pick_no (held_in x size i k) k _ (no_of (held_not x size i k (λ f. z (sym f ∙ sym q.0))))))));
+          ∙ sym (pick_no (held_in x size i k) k _ (fails _ (held_not x size i k (λ f. z (sym f ∙ sym q.0))))))));
       linked = linked_next;
       owned = owned_next c g e;
     }

@@ -22,6 +22,7 @@ use Rattle.owners.specs.Chains.{Owned}
 use Rattle.owners.proofs.Finding.{shares, owner_low}
 use Rattle.owners.proofs.Firsts.{owner_hit, owner_owns}
 use Rattle.owners.proofs.Comparing.{Asked, by_rows_lem}
+use Rattle.std.proofs.lemmas.List.{nil_from_length}
 
 -- ---- equal rows are the same
 
@@ -42,10 +43,6 @@ unfolding same_rows
 rows_self [] = refl
 rows_self (r ∷ rs) = simp (row_self r, rows_self rs)
 
-none : (rs : List Row) → length rs ≡ 0 → rs ≡ []
-none [] h = refl
-none (r ∷ rs) h = absurd (omega arith)
-
 -- ---- the same header
 
 marks_same : (a b : Bool) → not (beq a b) ≡ false → a ≡ b
@@ -59,7 +56,7 @@ module _ {x : Inputs} {j k : ℕ} {a b : Extent} {r : Bool} (q : Asked x j k a b
   leading_same : length (ahead (each (row_at x.rows) a.rows_at a.rows)) ≡ 0 → length (ahead (each (row_at x.rows) b.rows_at b.rows)) ≡ 0
       → leading_in x.machine a x.rows ≡ leading_in x.machine b x.rows
   unfolding leading meant
-  leading_same f g = rw (none (ahead (each (row_at x.rows) a.rows_at a.rows)) f, none (ahead (each (row_at x.rows) b.rows_at b.rows)) g, marks_same a.simple b.simple e)
+  leading_same f g = rw (nil_from_length (ahead (each (row_at x.rows) a.rows_at a.rows)) f, nil_from_length (ahead (each (row_at x.rows) b.rows_at b.rows)) g, marks_same a.simple b.simple e)
 
   pub sharing : length (ahead (each (row_at x.rows) a.rows_at a.rows)) ≡ 0 → length (ahead (each (row_at x.rows) b.rows_at b.rows)) ≡ 0
       → shares x k j ≡ true

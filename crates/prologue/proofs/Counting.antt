@@ -1,6 +1,6 @@
 -- The steps of a prologue, as the code compares them.
 use mathlib.Core.Path.{◌≡◌, refl}
-use mathlib.Core.Bool.{Bool, true, false, not}
+use mathlib.Core.Bool.{Bool, true, false}
 use denote.Enum.Bare.{sameb}
 use Rattle.format.specs.Prelude.{pick}
 use Rattle.prologue.specs.contracts.Steps.{the_type}
@@ -32,11 +32,3 @@ unfolding counted
 more_steps NoStep pushes e = cc
 more_steps PointerPushed pushes e = refl
 more_steps Others pushes e = refl
-
-pub not_true : (b : Bool) → not b ≡ true → b ≡ false
-not_true true e = cc
-not_true false e = refl
-
-pub not_false : (b : Bool) → not b ≡ false → b ≡ true
-not_false true e = refl
-not_false false e = cc

@@ -1,9 +1,9 @@
 -- The registers of a machine by DWARF's numbers: what the map's entry says.
 use mathlib.Core.Path.{◌≡◌, refl, sym, ap, ◌∙◌}
-use Prim.Native.Nat.{ℕ, zero, suc, ◌-◌, ◌≤◌, ◌<◌}
+use Prim.Native.Nat.{ℕ, ◌-◌, ◌≤◌, ◌<◌}
 use native.Mathlib.Omega.{arith}
 use mathlib.Core.Bool.{Bool, true, false}
-use mathlib.Core.List.{List, [], ◌∷◌}
+use mathlib.Core.List.{[]}
 use lib.ListN.{length, get_or, get_or-eq_default}
 use borrow.Author.Tests.{lt-ltb, le-ltb}
 use Rattle.format.specs.Prelude.{pick, Result, good, bad, onward}
@@ -13,14 +13,9 @@ use Rattle.format.specs.declared.Seh.{Seh}
 use Rattle.format.specs.X64.{low16}
 use Rattle.format.proofs.Choice.{either}
 use Rattle.std.specs.Prelude.{Option, Some, None, is_some}
+use Rattle.std.proofs.lemmas.List.{get_or_default}
 use Rattle.prologue.specs.Groups.{found_of, is_good}
 use Rattle.prologue.specs.Pieces.{code_in, piece_of, named_code}
-
--- an entry, whatever stands for those that are not there
-any_default : (xs : List ℕ) (i a b : ℕ) → i < length xs → get_or xs i a ≡ get_or xs i b
-any_default [] i a b h = absurd (omega arith)
-any_default (x ∷ xs) zero a b h = refl
-any_default (x ∷ xs) (suc i) a b h = any_default xs i a b (omega arith)
 
 module _ (m : Machine) (reg : ℕ) (size : length m.map ≡ 64) where
   pub past_map : 64 ≤ reg → None ≡ found_of (low16 (register_of m reg))
@@ -29,7 +24,7 @@ module _ (m : Machine) (reg : ℕ) (size : length m.map ≡ 64) where
 
   module _ {n : ℕ} (h : reg < 64) (e : n ≡ get_or m.map reg 0) where
     entry : get_or m.map reg 255 ≡ n
-    entry = any_default m.map reg 255 0 (omega arith) ∙ sym e
+    entry = get_or_default m.map reg 255 0 (omega arith) ∙ sym e
 
     pub low_integer : n < 16 → Some (n, false) ≡ found_of (low16 (register_of m reg))
     unfolding found_of low16 register_of pick

@@ -2,7 +2,7 @@
 use mathlib.Core.Path.{◌≡◌, refl, sym, ap, subst}
 use Prim.Native.Nat.{ℕ, suc, ◌<◌}
 use native.Mathlib.Omega.{arith}
-use mathlib.Core.List.{List, [], ◌∷◌, ◌++◌, reverse, reverse-append}
+use mathlib.Core.List.{[], ◌∷◌, ◌++◌, reverse, reverse-append}
 use lib.ListN.{length, length-reverse}
 use lib.IntN.{ℤ}
 use Rattle.std.specs.Prelude.{Ok, Err, Some, None}
@@ -10,8 +10,7 @@ use Rattle.arrayvec.specs.ArrayVec.{ArrayVec}
 use mathlib.Core.Bool.{true, false}
 use lib.Dec.{T}
 use Rattle.std.specs.Prelude as code
-use Rattle.std.specs.Option.{is_some, ok_or}
-use Rattle.format.specs.declared.question.Question.{Question}
+use Rattle.std.specs.Option.{is_some}
 use Rattle.format.specs.declared.Operation.{Operation}
 use Rattle.format.specs.declared.Operation.TheVariants.{Nop, Step, Does}
 use Rattle.format.specs.declared.Row.{Row}
@@ -21,18 +20,10 @@ use Rattle.format.specs.declared.CfaRule.{CfaRule}
 use Rattle.format.specs.declared.CfaRule.TheVariants.{Unset, Register}
 use Rattle.format.specs.declared.Rules.{Rules}
 use Rattle.format.proofs.Choice.{if-le, if-gt}
+use Rattle.format.proofs.ListLaws.{none_held}
 use Rattle.reader.specs.OneRegister.{Run, set_cfa, register_rule, change_offset, change_register, remember, recall, act, stepped, perform}
 use Rattle.reader.specs.declared.run.State.{State}
 use Rattle.reader.specs.States.{run_of}
-
--- what stands in front of a `?`: the value that was there, or that there was none and by what is refused
-pub given : {A : Type 0} (o : code.Option A) (q : Question) {x : A} → ok_or o q ≡ Ok x → o ≡ Some x
-given None q e = let f : ◌≡◌ {A = ℕ} 0 1 = cc in absurd (omega arith)
-given (Some y) q e = cc
-
-pub lacking : {A : Type 0} (o : code.Option A) (q : Question) {e : Question} → ok_or o q ≡ Err e → (o ≡ None) × (q ≡ e)
-lacking None q e = (refl, cc)
-lacking (Some y) q e = let f : ◌≡◌ {A = ℕ} 0 1 = cc in absurd (omega arith)
 
 -- a CFA rule that has no register, or no offset, to be kept; and one that has both
 module _ (z : ℤ) (reg : ℕ) (s : Run) where
@@ -49,10 +40,6 @@ module _ (z : ℤ) (reg : ℕ) (s : Run) where
       let p : ◌≡◌ {A = ℕ × ℤ} (r', x') (r, x) = cc in
       (ap (λ (u : ℕ × ℤ). good (set_cfa (Register u.0 z) s)) p, ap (λ (u : ℕ × ℤ). good (set_cfa (Register reg u.1) s)) p)
 
-none_stored : (xs : List Rules) → (0 < length xs → ⊥) → xs ≡ []
-none_stored [] n = refl
-none_stored (x ∷ xs) n = absurd (n (omega arith))
-
 module _ (s : State) where
   pub full : length s.stored.items ≡ 16 → remember (run_of s) ≡ bad 68
   unfolding remember run_of
@@ -66,7 +53,7 @@ module _ (s : State) where
 
   pub empty : (0 < length s.stored.items → ⊥) → recall (run_of s).stored (run_of s) ≡ bad 67
   unfolding recall run_of
-  empty n = rw (none_stored s.stored.items n)
+  empty n = rw (none_held s.stored.items n)
 
   pub recalled : (k : Rules) (new : ArrayVec Rules) → s.stored.items ≡ new.items ++ (k ∷ [])
       → recall (run_of s).stored (run_of s) ≡ good (run_of (record { rules = k; stored = new }))

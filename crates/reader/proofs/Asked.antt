@@ -12,16 +12,16 @@ use Rattle.format.specs.Prelude.{pick, Result, bad, onward}
 use Rattle.format.specs.Machine.{is_word_size}
 use Rattle.std.specs.Prelude.{Ok, Err}
 use Rattle.format.specs.Lists.{relocations_of}
-use Rattle.format.specs.Rules.{State, blank, answer}
+use Rattle.format.specs.Rules.{blank, answer}
 use Rattle.format.specs.Numbers.{number_of}
 use Rattle.format.specs.declared.question.Question.{Question}
 use Rattle.format.specs.Shortest.{run_short}
 use Rattle.format.specs.Reader.{Found, run, run_to, shortest_to, shortest_of, shortest_at, locate, read_section, read}
 use Rattle.reader.specs.declared.location.Located.{Located}
-use Rattle.std.specs.Prelude.{Ok, Err}
 use Rattle.std.specs.Prelude as code
 use Rattle.reader.specs.Finds.{found, Stated, Locates, locate_in, in_section, rules_from, shortest_from}
 use Rattle.format.proofs.Choice.{if-le, if-gt, is_true}
+use Rattle.format.proofs.Onward.{onward_pick}
 
 -- ---- 11
 
@@ -121,11 +121,6 @@ place_found {s} {word} {r} {l} {x} e h = subst (λ (t : code.Result Located Ques
 
 pub place_refused : (s : List ℕ) (word : ℕ) {r : code.Result Located Question} {q : Question} {x : Result Found} → r ≡ Err q → Locates s word r x → x ≡ bad (number_of q)
 place_refused s word {r} {q} {x} e h = subst (λ (t : code.Result Located Question). Locates s word t x) e h
-
-onward_pick : (b : Bool) (x : Result Found) (k : Found → Result State) → pick b (onward x k) (bad 11) ≡ onward (pick b x (bad 11)) k
-unfolding pick onward
-onward_pick true x k = refl
-onward_pick false x k = refl
 
 module _ (section relocations : List ℕ) (kind word k q p : ℕ) where
   -- reading is locating, and then the run

@@ -17,10 +17,9 @@ use Rattle.operations.specs.declared.fields.Position.{Position}
 use Rattle.operations.proofs.PositionLaws.{past_mark, uleb_ahead, uleb_rest, uleb_past, uleb_none}
 use Rattle.std.specs.Prelude.{Some, None}
 use Rattle.std.specs.Prelude as code
-use Rattle.format.proofs.Asked.{option_of}
+use Rattle.format.proofs.Asked.{option_of, value_is, none_is}
 use Rattle.reader.specs.Fields.{Rests, letters_of, Counts, CountsIn, tail_mark, Skips}
 use Rattle.reader.specs.declared.fields.Augmentation.{Augmentation}
-use Rattle.reader.proofs.Seeking.{number_is, number_none}
 
 -- ---- a byte, and bytes
 
@@ -87,18 +86,18 @@ module _ (s : List ℕ) (word : ℕ) where
   module _ (l : length s ≡ 0 → ⊥) where
     pub personality_unknown : option_of (pointer_size true word (get_or s 0 0)) ≡ None → personality_in true word s ≡ none
     unfolding personality_in next after
-    personality_unknown e = rw (first_byte s l, number_none _ e)
+    personality_unknown e = rw (first_byte s l, none_is _ e)
 
     module _ {n : ℕ} (e : option_of (pointer_size true word (get_or s 0 0)) ≡ Some n) where
       pub personality_over : length s - 1 < n → personality_in true word s ≡ none
       unfolding personality_in next after
-      personality_over h = rw (first_byte s l, number_is _ e, many_none s 1 n h)
+      personality_over h = rw (first_byte s l, value_is _ e, many_none s 1 n h)
 
       pub personality_there : n ≤ length s - 1 → Skips s (1 + n) (personality_in true word s)
       unfolding personality_in next after
       personality_there h =
           let k : 1 + n ≤ length s = omega arith in
-          record { inside = k; rest = rw (first_byte s l, number_is _ e, many_there s 1 n k) }
+          record { inside = k; rest = rw (first_byte s l, value_is _ e, many_there s 1 n k) }
 
 -- ---- the pointer to call sites
 
@@ -110,12 +109,12 @@ module _ (s : List ℕ) (p : Position) (word : ℕ) where
   module _ (l : p.at < length s) where
     pub lsda_unknown : option_of (pointer_size false word (get_or s p.at 0)) ≡ None → lsda_in true word (drop p.at s) ≡ none
     unfolding lsda_in next after
-    lsda_unknown e = rw (byte_there s p.at l, number_none _ e)
+    lsda_unknown e = rw (byte_there s p.at l, none_is _ e)
 
     pub lsda_there : {n : ℕ} → option_of (pointer_size false word (get_or s p.at 0)) ≡ Some n
         → Rests s p.shortest n (record { at = p.at + 1; shortest = p.shortest }) (lsda_in true word (drop p.at s))
     unfolding lsda_in next after
-    lsda_there e = record { inside = omega arith; read = rw (byte_there s p.at l, number_is _ e); mark = refl }
+    lsda_there e = record { inside = omega arith; read = rw (byte_there s p.at l, value_is _ e); mark = refl }
 
 -- ---- all of them, and the records' encoding
 

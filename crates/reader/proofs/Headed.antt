@@ -21,12 +21,11 @@ use Rattle.operations.proofs.PositionLaws.{past_mark, uleb_rest, uleb_none, uleb
 use Rattle.rows.proofs.Signs.{eqb_both}
 use Rattle.std.specs.Prelude.{Some, None}
 use Rattle.std.specs.Prelude as code
-use Rattle.format.proofs.Asked.{option_of}
+use Rattle.format.proofs.Asked.{option_of, value_is, none_is}
 use Rattle.reader.specs.Spans.{part}
 use Rattle.reader.specs.Fields.{Rests, letters_of, ReadsAugmentation, Counts, CountsIn, Heading, tail_mark, header_factors}
 use Rattle.reader.specs.declared.fields.Augmentation.{Augmentation}
 use Rattle.reader.proofs.Augmentation.{byte_there, byte_none, counts, counts_none}
-use Rattle.reader.proofs.Seeking.{number_is, number_none}
 
 -- ---- the augmentation data, and the operations behind it
 
@@ -49,12 +48,12 @@ module _ (s : List ℕ) (p : Position) (debug : Bool) (word : ℕ) (l : Augmenta
 
       pub tail_unknown : option_of (letters_in (letters_of l) word (part s a.at e)) ≡ None → tail ≡ none
       unfolding header_tail next after
-      tail_unknown w = rw (d, tail_counts.read, number_none _ w)
+      tail_unknown w = rw (d, tail_counts.read, none_is _ w)
 
       pub tail_there : {n : ℕ} → option_of (letters_in (letters_of l) word (part s a.at e)) ≡ Some n
           → Heading s (tail_mark debug s p) (record { at = e; shortest = a.shortest }) n l.signal tail
       unfolding header_tail next after
-      tail_there w = record { inside = tail_counts.inside; read = rw (d, tail_counts.read, number_is _ w); mark = rw d tail_counts.mark }
+      tail_there w = record { inside = tail_counts.inside; read = rw (d, tail_counts.read, value_is _ w); mark = rw d tail_counts.mark }
 
 -- ---- the factors and the return address register
 

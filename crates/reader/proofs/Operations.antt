@@ -5,7 +5,7 @@ use mathlib.Core.Path.{◌≡◌, refl, sym, ap, ◌∙◌}
 use Prim.Native.Nat.{ℕ, zero, suc, ◌+◌, ◌-◌, ◌≤◌, ◌<◌}
 use native.Mathlib.Omega.{arith}
 use native.Mathlib.Nat.{le_refl}
-use mathlib.Core.Bool.{Bool, true, false, not}
+use mathlib.Core.Bool.{Bool, true, false, not, not-not}
 use mathlib.Core.Option.{none, some}
 use mathlib.Core.List.{List, [], ◌∷◌}
 use lib.ListN.{length, drop, length-drop, drop_of_length-le}
@@ -22,9 +22,9 @@ use Rattle.operations.specs.Positions.{operation_at}
 use Rattle.format.specs.Rules.{State, act, answer}
 use Rattle.format.specs.Reader.{perform, when_read, run_f}
 use Rattle.format.proofs.Choice.{if-le, if-gt}
+use Rattle.format.proofs.Onward.{onward_ext}
 use Rattle.operations.proofs.PositionLaws.{Takes, nothing, taken}
 use Rattle.operations.proofs.OperationLaws.{takes_operation, operation_ahead, operation_rest, operation_none}
-use Rattle.format.proofs.WalkBack.{onward_ext}
 use Rattle.reader.specs.declared.run.State as code
 use Rattle.std.specs.Prelude as std
 use Rattle.reader.specs.OneRegister as one
@@ -36,12 +36,8 @@ use Rattle.reader.proofs.Acting.{Done, padded, acted, Refused, header_step, row_
 -- the header's operations are those that have no initial rule
 pub none_where : (header : Bool) (r : Rule) {o : std.Option Rule} → one.initial_of header r ≡ o → {b : Bool} → is_some o ≡ not b → header ≡ b
 unfolding one.initial_of
-none_where header r {o} e {b} f = by header e ∙ ap not f ∙ twice b
+none_where header r {o} e {b} f = by header e ∙ ap not f ∙ not-not b
   where
-    twice : (b : Bool) → not (not b) ≡ b
-    twice true = refl
-    twice false = refl
-
     by : (h : Bool) → one.initial_of h r ≡ o → h ≡ not (is_some o)
     by true e = rw (← e)
     by false e = rw (← e)

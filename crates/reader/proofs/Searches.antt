@@ -9,6 +9,7 @@ use Rattle.std.specs.Fn.{CalledAt}
 use Rattle.std.specs.Iterator.{Yields, SkipsThenYields, Drains, FindsItem, CallableAtEachTurn}
 use Rattle.std.specs.List.{FoldsTo}
 use Rattle.std.proofs.lemmas.Fn.{serves_by}
+use Rattle.std.proofs.lemmas.Bool.{not-true, not-false}
 use Rattle.format.specs.Prelude.{pick}
 use Rattle.format.specs.Reader.{Entry, is_header, records, entries, header_at}
 use Rattle.reader.specs.Spans.{entry_of, entries_from, listed, Holds, Ends, Ahead, Spans}
@@ -106,29 +107,21 @@ module _ {X : Type 0} (over : List Entry → X) (test : Entry → Bool) (skips :
 
 -- ---- the first entry that is no header
 
-not_true : (b : Bool) → not b ≡ true → b ≡ false
-not_true true e = sym e
-not_true false e = refl
-
-not_false : (b : Bool) → not b ≡ false → b ≡ true
-not_false true e = refl
-not_false false e = sym e
-
 pub found_record : {F : Type 0} {g : Mut F (Bor Span × Unit {0}) Bool} {f : F} (w : Records) (r : code.Option Span) (u : Entries)
     → ((x : Span) (b : Bool) (q : F) → CalledAt g f x b q → (q ≡ f) × (b ≡ not (is_header w.debug (entry_of w.rest.section.now x))))
     → FindsItem Gives g w.rest f r u → GivesRecord w r (record { rest = u; debug = w.debug })
 unfolding left records
 found_record {F} {g} {f} w None u answers h =
-    let m = missed (records w.debug) (λ e. not (is_header w.debug e)) (λ e es n. records_header w.debug e es (not_false _ n)) w.rest.section.now answers w.rest u refl h in
+    let m = missed (records w.debug) (λ e. not (is_header w.debug e)) (λ e es n. records_header w.debug e es (not-false _ n)) w.rest.section.now answers w.rest u refl h in
     record { all = m.none; same = m.same; same_debug = refl }
 found_record {F} {g} {f} w (Some x) u answers h =
     let bs = w.rest.section.now in
-    let m = met (records w.debug) (λ e. not (is_header w.debug e)) (λ e es n. records_header w.debug e es (not_false _ n)) bs answers w.rest u refl x h in
+    let m = met (records w.debug) (λ e. not (is_header w.debug e)) (λ e es n. records_header w.debug e es (not-false _ n)) bs answers w.rest u refl x h in
     let q : u.section.now ≡ bs = ap (λ (b : Bor (List ℕ)). b.now) m.same in
     record {
       holds = m.holds;
-      no_header = not_true _ m.passes;
-      first = m.rest ∙ rw (q, m.past) (records_record w.debug (entry_of bs x) (listed (entries_from bs x.end)) (not_true _ m.passes));
+      no_header = not-true _ m.passes;
+      first = m.rest ∙ rw (q, m.past) (records_record w.debug (entry_of bs x) (listed (entries_from bs x.end)) (not-true _ m.passes));
       ahead = m.ahead;
       past = m.past;
       same = m.same;

@@ -130,14 +130,6 @@ less_by s at end {d} e (Some x) h = rw (← e, le-leb d (at + 4) h.0, h.1) refl
 
 -- ---- a value that was found, and one that was not
 
-pub number_is : {A : Type 0} (o : Option A) {a : A} → option_of o ≡ Some a → o ≡ some a
-number_is none e = let z : ◌≡◌ {A = ℕ} 0 1 = cc in absurd (omega arith)
-number_is (some n) e = cc
-
-pub number_none : {A : Type 0} (o : Option A) → option_of o ≡ None → o ≡ none
-number_none none e = refl
-number_none (some n) e = let z : ◌≡◌ {A = ℕ} 0 1 = cc in absurd (omega arith)
-
 pub answer_is : {A : Type 0} (r : Result A) {a : A} → result_of r ≡ Ok a → r ≡ good a
 answer_is (good a) e = cc
 answer_is (bad n) e = let z : ◌≡◌ {A = ℕ} 0 1 = cc in absurd (omega arith)

@@ -20,13 +20,12 @@ use Rattle.reader.specs.Spans.{part, entry_in}
 use Rattle.reads.specs.Addresses.{function_fields, sdata4, start_of, function_of, function_found, placed_as, function_at, record_of, holder_as, holder_in, holds}
 use Rattle.format.specs.Prelude.{or_else}
 use Rattle.format.specs.Coded.{result_of}
-use Rattle.format.proofs.Asked.{option_of}
+use Rattle.format.proofs.Asked.{option_of, value_is, none_is}
 use Rattle.std.specs.Prelude.{Some, None, Ok, Err}
 use Rattle.std.specs.Prelude as code
 use Rattle.std.specs.Option.{ok_or}
 use Rattle.format.specs.Coded.{numbered}
 use Rattle.format.specs.declared.question.Question.TheVariants.{Fields}
-use Rattle.reader.proofs.Seeking.{number_is, number_none}
 
 -- ---- the fields
 
@@ -105,24 +104,24 @@ module _ (s : List ℕ) (debug : Bool) (word address at end : ℕ) where
 
   pub function_bad : fields_in ≡ None → None ≡ option_of (function_of debug word address (entry_in s at end))
   unfolding function_of after
-  function_bad e = rw (number_none (function_fields debug word (part s (at + 4) end)) e) refl
+  function_bad e = rw (none_is (function_fields debug word (part s (at + 4) end)) e) refl
 
   pub function_there : {v size start : ℕ} → fields_in ≡ Some (v, size) → start ≡ start_of debug word address at v
       → Some (start, size) ≡ option_of (function_of debug word address (entry_in s at end))
   unfolding function_of after
-  function_there e f = rw (number_is (function_fields debug word (part s (at + 4) end)) e, f) refl
+  function_there e f = rw (value_is (function_fields debug word (part s (at + 4) end)) e, f) refl
 
 -- ---- what a function holds
 
 module _ (pc : ℕ) (o : Option (ℕ × ℕ)) where
   pub holds_none : option_of o ≡ None → false ≡ holds pc o
   unfolding holds
-  holds_none e = rw (number_none o e) refl
+  holds_none e = rw (none_is o e) refl
 
   module _ {start size : ℕ} (e : option_of o ≡ Some (start, size)) where
     holds_by : (leb start pc && ltb (pc - start) size) ≡ holds pc o
     unfolding holds
-    holds_by = rw (number_is o e) refl
+    holds_by = rw (value_is o e) refl
 
     pub holds_from : start ≤ pc → ltb (pc - start) size ≡ holds pc o
     holds_from h = sym (ap (λ (b : Bool). b && ltb (pc - start) size) (le-leb start pc h)) ∙ holds_by
@@ -151,11 +150,11 @@ module _ (s : List ℕ) (debug : Bool) (word address place : ℕ) where
 
       function_short : of_entry ≡ None → Err 64 ≡ wanted
       unfolding function_found after require pick or_else
-      function_short n = rw (entry_here s place e, y, number_none (function_of debug word address (entry_in s place end)) n) refl
+      function_short n = rw (entry_here s place e, y, none_is (function_of debug word address (entry_in s place end)) n) refl
 
       function_record : {f : ℕ × ℕ} → of_entry ≡ Some f → Ok f ≡ wanted
       unfolding function_found after require pick or_else
-      function_record n = rw (entry_here s place e, y, number_is (function_of debug word address (entry_in s place end)) n) refl
+      function_record n = rw (entry_here s place e, y, value_is (function_of debug word address (entry_in s place end)) n) refl
 
       pub function_given : (o : code.Option (ℕ × ℕ)) → o ≡ of_entry → numbered (ok_or o Fields) ≡ wanted
       function_given None n = function_short (sym n)

@@ -6,16 +6,16 @@ use Rattle.std.specs.Option.{option_eq, unwrap_or}
 use Rattle.std.proofs.lemmas.Bool.{eqb-true}
 use Rattle.format.specs.Prelude.{pick, after, first, Result, good, bad, onward, or_else}
 use Rattle.format.specs.Put.{put}
-use Rattle.format.proofs.Asked.{option_of}
+use Rattle.format.proofs.Asked.{option_of, value_is, none_is}
 use Rattle.std.specs.Prelude.{Some, None, Ok, Err}
 use Rattle.std.specs.Prelude as code
 use Rattle.format.specs.Questions.{is_some}
 use Rattle.format.specs.Lists.{Relocation, relocations_of}
 use Rattle.format.specs.Reader.{Entry, is_header, records, entries, header_place, header_at}
-use Rattle.format.proofs.Choice.{if-le, if-gt}
+use Rattle.format.proofs.Choice.{if-le, if-gt, decided}
 use Rattle.reader.specs.Spans.{entry_in, entries_from, listed, Ends, Spans}
 use Rattle.reader.specs.declared.section.Span.{Span}
-use Rattle.reader.proofs.Seeking.{search_start, search_turn, number_is, number_none, absent, header_here_lem, header_later}
+use Rattle.reader.proofs.Seeking.{search_start, search_turn, absent, header_here_lem, header_later}
 use Rattle.reader.proofs.Tiling.{tiled_end}
 use Rattle.reader.proofs.Whole.{spans, spans_none}
 use Rattle.reads.specs.Places.{asked, header_of}
@@ -36,10 +36,6 @@ no_test false c = refl
 first_yes : (a b c : Bool) → T (a && b && c) → T a
 first_yes true b c t = tt
 first_yes false b c t = absurd t
-
-decided {ℓ} : {X : Type ℓ} (b : Bool) → (b ≡ true → X) → (b ≡ false → X) → X
-decided true f g = f refl
-decided false f g = g refl
 
 module _ (debug : Bool) (place : ℕ) where
   -- no header stands behind its record
@@ -112,12 +108,12 @@ module _ (s : List ℕ) (rs : List Relocation) (debug : Bool) (es : List Entry) 
 
   pub start_none : r ≡ None → nowhere ≡ start
   unfolding header_of after place_or
-  start_none e = rw (number_none _ (sym m ∙ e)) refl
+  start_none e = rw (none_is _ (sym m ∙ e)) refl
 
   module _ {place : ℕ} (e : r ≡ Some place) where
     at_place : start ≡ place_or (header_at debug place at es)
     unfolding header_of after
-    at_place = rw (number_is _ (sym m ∙ e)) refl
+    at_place = rw (value_is _ (sym m ∙ e)) refl
 
     pub start_behind : at ≤ place → nowhere ≡ start
     unfolding place_or

@@ -1,78 +1,52 @@
--- A pass over the entries of a section that is tiled: what is asked of all of them goes on in those from a position on.
-use Rattle.std.proofs.Common.{◌≡◌, ℕ, ◌+◌, ◌≤◌, Bool, true, false, T, List, [], ◌∷◌, length, refl, ap, ◌∙◌, add-one, arith}
+-- The pass over the records of a section that looks for the one that holds an address.
+use Rattle.std.proofs.Common.{◌≡◌, ℕ, ◌+◌, Bool, true, false, List, ◌∷◌, ap, ◌∙◌, refl, subst, add-one}
+use denote.Ref.{Bor}
 use mathlib.Core.Option.{Option, none, some}
 use Rattle.format.specs.Prelude.{pick, onward, or_else}
 use Rattle.format.specs.Questions.{is_some}
-use Rattle.format.specs.Reader.{Entry, is_header, records, entries}
-use Rattle.reader.specs.Spans.{entry_in, entries_from, listed, Ends}
-use Rattle.reader.proofs.Tiling.{tiled_end}
+use Rattle.format.specs.Reader.{Entry, records, entries}
+use Rattle.reader.specs.Spans.{entry_of, listed, Holds}
+use Rattle.reader.specs.Records.{left, GaveRecord, RecordsEnded}
+use Rattle.reader.specs.declared.records.Records.{Records}
+use Rattle.reader.specs.declared.section.Span.{Span}
 use Rattle.reader.proofs.Whole.{tiled}
 use Rattle.reader.proofs.Seeking.{absent}
-use Rattle.reader.proofs.Searches.{records_header, records_record}
 use Rattle.reads.specs.Addresses.{function_of, holds, holder_from, holder_in}
 use Rattle.std.specs.Prelude.{Ok, Err}
 use Rattle.std.specs.Prelude as code
 use Rattle.format.specs.Coded.{result_of}
 
-pub record Passing {A : Type 0} (s : List ℕ) (ask rest : List Entry → A) (at : ℕ) : Type 0 where
-  pub inside : at ≤ length s
-  pub tiles : T (is_some (entries_from s at))
-  pub same : ask (listed (entries s)) ≡ rest (listed (entries_from s at))
-
-pub begun : {A : Type 0} (s : List ℕ) (ask : List Entry → A) → T (is_some (entries s)) → Passing s ask ask 0
-unfolding entries entries_from
-begun s ask t = record { inside = omega arith; tiles = t; same = refl }
-
-module _ {A : Type 0} {s : List ℕ} {ask rest : List Entry → A} {at : ℕ} (k : Passing s ask rest at) where
-  module _ {end : ℕ} (e : Ends s at end) where
-    pub passed : (rest' : List Entry → A) → ((es : List Entry) → rest (entry_in s at end ∷ es) ≡ rest' es) → Passing s ask rest' end
-    passed rest' f = record { inside = e.inside; tiles = e.tiled; same = k.same ∙ rw e.rest (f (listed (entries_from s end))) }
-
-    pub met : {x : A} → ((es : List Entry) → rest (entry_in s at end ∷ es) ≡ x) → ask (listed (entries s)) ≡ x
-    met f = k.same ∙ rw e.rest (f (listed (entries_from s end)))
-
-  pub all_passed : length s ≤ at → ask (listed (entries s)) ≡ rest []
-  unfolding listed
-  all_passed h = k.same ∙ rw (tiled_end s at h) refl
-
--- ---- the record that holds an address
-
 abbrev pub holders_from : (debug : Bool) (test : Entry → Bool) → ℕ → List Entry → Option (ℕ × ℕ)
 holders_from debug test k es = holder_from test k (records debug es)
 
--- k records were passed, none of which holds it
-pub record Holding (s : List ℕ) (debug : Bool) (test : Entry → Bool) (k at : ℕ) : Type 0 where
-  pub few : k ≤ at
-  pub pass : Passing s (holders_from debug test 0) (holders_from debug test k) at
+-- k records were passed, none of which passes the test, and these are left
+pub record Holding (s : List ℕ) (debug : Bool) (test : Entry → Bool) (k : ℕ) (r : Records) : Type 0 where
+  pub same : r.rest.section.now ≡ s
+  pub pass : holders_from debug test 0 (listed (entries s)) ≡ holder_from test k (left r)
 
-module _ (s : List ℕ) (debug : Bool) (test : Entry → Bool) where
-  pub holding : T (is_some (entries s)) → Holding s debug test 0 0
-  holding t = record { few = omega arith; pass = begun s (holders_from debug test 0) t }
+pub holding : {b : Bor (List ℕ)} {debug : Bool} {test : Entry → Bool} {r : Records} → r.rest.section ≡ b → left r ≡ records debug (listed (entries b.now))
+    → Holding b.now debug test 0 r
+holding {b} {debug} {test} {r} e l = record { same = ap (λ c. c.now) e; pass = rw l refl }
 
-  module _ {k at end : ℕ} (h : Holding s debug test k at) (e : Ends s at end) where
-    pub past_header : is_header debug (entry_in s at end) ≡ true → Holding s debug test k end
-    past_header y =
-        record {
-          few = omega (arith, h.few, e.long);
-          pass = passed h.pass e (holders_from debug test k) (λ es. ap (holder_from test k) (records_header debug (entry_in s at end) es y));
-        }
+module _ {s : List ℕ} {debug : Bool} {test : Entry → Bool} {k : ℕ} {r : Records} (h : Holding s debug test k r) where
+  module _ {e : Span} {t : Records} (g : GaveRecord r e t) where
+    pub held : Holds s e
+    held = subst (λ bs. Holds bs e) h.same g.holds
 
-    module _ (y : is_header debug (entry_in s at end) ≡ false) where
-      pub past_record : test (entry_in s at end) ≡ false → Holding s debug test (k + 1) end
-      unfolding holder_from pick
-      past_record n =
-          record {
-            few = omega (arith, h.few, e.long);
-            pass = passed h.pass e (holders_from debug test (k + 1)) (λ es. ap (holder_from test k) (records_record debug (entry_in s at end) es y) ∙ rw (n, add-one) refl);
-          }
+    first : left r ≡ entry_of s e ∷ left t
+    first = subst (λ bs. left r ≡ entry_of bs e ∷ left t) h.same g.first
 
-      pub here : test (entry_in s at end) ≡ true → holders_from debug test 0 (listed (entries s)) ≡ some (k, at)
-      unfolding holder_from pick
-      here n = met h.pass e (λ es. ap (holder_from test k) (records_record debug (entry_in s at end) es y) ∙ rw n refl)
+    pub passed : test (entry_of s e) ≡ false → Holding s debug test (k + 1) t
+    unfolding holder_from pick
+    passed n = record { same = ap (λ b. b.now) g.same ∙ h.same; pass = h.pass ∙ rw (first, n, add-one) refl }
 
-  pub nobody : {k at : ℕ} → Holding s debug test k at → length s ≤ at → holders_from debug test 0 (listed (entries s)) ≡ none
-  unfolding holder_from records
-  nobody h l = all_passed h.pass l
+    pub here : test (entry_of s e) ≡ true → holders_from debug test 0 (listed (entries s)) ≡ some (k, e.at)
+    unfolding holder_from pick
+    here n = h.pass ∙ rw (first, n) refl
+
+  pub nobody : {t : Records} → RecordsEnded r t → holders_from debug test 0 (listed (entries s)) ≡ none
+  unfolding holder_from
+  nobody g = h.pass ∙ rw g.all refl
 
 module _ (s : List ℕ) (debug : Bool) (word address pc : ℕ) where
   abbrev pub holding_pc : Entry → Bool

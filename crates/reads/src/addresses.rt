@@ -7,7 +7,8 @@ ghost use Rattle.reads.specs.Addresses.{function_fields, start_of, function_of, 
 
 use format::Question;
 use operations::fields::{Position, read_le};
-use reader::entries::{self, Entries};
+use reader::entries;
+use reader::records::Records;
 use reader::section::{Body, Layout, Section, Span};
 
 // 2^31, and what a signed number of 4 bytes from there on lacks to 2^64.
@@ -114,16 +115,10 @@ impl<'a> Loaded<'a> {
         if !entries::tiles(s) {
             return Err(Question::Tiling);
         }
-        // Kept: a count beside the entries. An earlier try by the reader's `Records` left its goals `returns` and `returns-in_default` open.
-        let mut k: u64 = 0;
-        'entries: for entry in Entries::new(s) {
-            if entry.is_header(s, self.section.layout.debug) {
-                continue 'entries;
+        for (k, fde) in Records::new(s, self.section.layout.debug).enumerate() {
+            if self.record_holds(fde, pc) {
+                return Ok((k as u64, fde.at as u64));
             }
-            if self.record_holds(entry, pc) {
-                return Ok((k, entry.at as u64));
-            }
-            k += 1;
         }
         Err(Question::Record)
     }

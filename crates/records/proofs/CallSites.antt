@@ -15,13 +15,12 @@ use Rattle.format.specs.Headers.{padding}
 use Rattle.format.specs.CallSites.{site_bytes, sites_bytes, site_table, site_pad, site_added}
 use Rattle.format.proofs.Wrote.{Wrote}
 use Rattle.format.proofs.Storing as storing
-use Rattle.format.proofs.Storing.{Storing}
+use Rattle.format.proofs.Storing.{Storing, stored_next}
 use Rattle.lists.specs.declared.Extent.{Extent}
 use Rattle.lists.specs.Extents.{meant}
 use Rattle.headers.proofs.Lengths.{uleb_most}
 use Rattle.records.specs.Sites.{sites_in}
 use Rattle.records.proofs.Chunks.{each_moved}
-use Rattle.records.proofs.Chunks.{stored}
 
 -- ---- one entry
 
@@ -91,7 +90,7 @@ module _ {xs₀ xs ls : List ℕ} {at n i p : ℕ} (w : Writing xs₀ xs ls at n
   room h = omega (arith, (front h).room, length-append (site_bytes (landing_at ls i)) (sites_in ls (i + 1) (n - (i + 1))))
 
   pub turn : {ys : List ℕ} {q : ℕ} → i < n → Wrote xs ys p q (site_bytes (landing_at ls i)) → Writing xs₀ ys ls at n (i + 1) q
-  turn h s = record { high = omega arith; left = stored (site_bytes (landing_at ls i)) (front h) s }
+  turn h s = record { high = omega arith; left = stored_next (site_bytes (landing_at ls i)) (front h) s }
 
   pub ended : n ≤ i → Wrote xs₀ xs at p (sites_in ls 0 n)
   ended h =

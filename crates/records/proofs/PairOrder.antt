@@ -2,7 +2,7 @@
 use mathlib.Core.Path.{◌≡◌, refl, sym, subst, ◌∙◌}
 use Prim.Native.Nat.{ℕ, zero, suc, ◌+◌, ◌-◌, ◌≤◌, ◌<◌}
 use native.Mathlib.Omega.{arith}
-use mathlib.Core.Bool.{Bool, true, false, ◌&&◌}
+use mathlib.Core.Bool.{Bool, true, false}
 use mathlib.Core.Logic.{◌≢◌}
 use mathlib.Core.Option.{none, some}
 use mathlib.Core.List.{List}
@@ -11,8 +11,8 @@ use borrow.Author.Tests.{ne_eqb}
 use Rattle.std.specs.Prelude as code
 use Rattle.std.specs.Prelude.{MatchOption}
 use Rattle.std.specs.List.{list_all, range_with_len}
+use Rattle.std.proofs.lemmas.Bool.{and_parts}
 use Rattle.format.specs.Lists.{Pair, pair_at}
-use Rattle.rows.proofs.WholeNumbers.{never}
 use Rattle.format.proofs.Choice.{either}
 use Rattle.records.specs.Labels.{is_for, pair_between, Rising, Parted}
 use Rattle.records.proofs.LabelLaws.{Seeking, start, turn, found, ended}
@@ -44,14 +44,10 @@ module _ {pairs : List ℕ} {at i : ℕ} (s : Climbing pairs at i) where
 abbrev pub climbs : (pairs : List ℕ) → ℕ → Bool
 climbs pairs i = ltb (pair_at pairs (i - 1)).place1 (pair_at pairs i).place1
 
-split : (a b : Bool) → (a && b) ≡ true → (a ≡ true) × (b ≡ true)
-split true b e = (refl, e)
-split false b e = never e
-
 climbing : (pairs : List ℕ) (i m : ℕ) → Climbing pairs 0 i → list_all (climbs pairs) (range_with_len i m) ≡ true → Climbing pairs 0 (i + m)
 climbing pairs i zero c e = let z : i ≡ i + 0 = omega arith in rw z at c
 climbing pairs i (suc m) c e =
-    let s = split (climbs pairs i) (list_all (climbs pairs) (range_with_len (i + 1) m)) e in
+    let s = and_parts (climbs pairs i) (list_all (climbs pairs) (range_with_len (i + 1) m)) e in
     let l : (pair_at pairs (i - 1)).place1 < (pair_at pairs i).place1 = ltb→lt _ _ (subst T (sym s.0) tt) in
     let z : i + 1 + m ≡ i + suc m = omega arith in
     rw z at (climbing pairs (i + 1) m (turn_climb c refl refl l) s.1)

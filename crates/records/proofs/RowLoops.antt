@@ -13,9 +13,8 @@ use Rattle.format.proofs.ListLaws.{each-length, in_range, each_next}
 use Rattle.format.proofs.Sizes.{row_short, step_short, rows_at_short}
 use Rattle.format.proofs.WalkBack.{RowsAtOk}
 use Rattle.format.proofs.Storing as storing
-use Rattle.format.proofs.Storing.{Storing}
+use Rattle.format.proofs.Storing.{Storing, stored_next}
 use Rattle.records.specs.Stepped.{stepped_row_bytes, rows_in, SteppedRowReady, SteppedReady}
-use Rattle.records.proofs.Chunks.{stored}
 
 -- ---- one row
 
@@ -110,7 +109,7 @@ module _ {xs₀ xs : List ℕ} {w : ℕ} {rows : List ℕ} {at first n i from p 
         → Wrote xs ys p q (stepped_row_bytes w from (row_at rows i)) → Writing xs₀ ys w rows at first n (i + 1) to q
     turn r e l = record {
       going = onward r s.going h e;
-      left = rw (e, ← offset_of rows i) (stored (stepped_row_bytes w from (row_at rows i)) front l);
+      left = rw (e, ← offset_of rows i) (stored_next (stepped_row_bytes w from (row_at rows i)) front l);
     }
 
   pub ended : first + n ≤ i → Wrote xs₀ xs at p (rows_in w 0 rows first n)

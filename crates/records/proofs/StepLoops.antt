@@ -11,10 +11,9 @@ use Rattle.format.specs.Lists.{Pair, field, row_stride, row_at, numbers_of}
 use Rattle.format.specs.Records.{step_relocs}
 use Rattle.format.proofs.ListLaws.{each-length, numbers_append, each_next}
 use Rattle.format.proofs.Storing as storing
-use Rattle.format.proofs.Storing.{Storing}
+use Rattle.format.proofs.Storing.{Storing, stored_next}
 use Rattle.records.specs.Stepped.{stepped_row_bytes, SteppedReady}
 use Rattle.records.specs.Labels.{step_pair, steps_in}
-use Rattle.records.proofs.Chunks.{stored}
 use Rattle.records.proofs.RowLoops.{offset_of, row_at-length, Going, begin, row_at_ready, row_at_short, onward}
 use Rattle.records.proofs.LabelLaws.{steps_count, steps_most}
 
@@ -70,7 +69,7 @@ module _ {xs₀ xs : List ℕ} {w place : ℕ} {rows : List ℕ} {first n : ℕ}
     turn l t y = record {
       going = onward l s.going h o;
       near = omega (arith, s.near, s.going.low, row_at_short (row_at_ready l s.going h));
-      left = rw y (stored (numbers_of (step_pair p from to ps)) front t);
+      left = rw y (stored_next (numbers_of (step_pair p from to ps)) front t);
     }
 
   pub ended : first + n ≤ k → Wrote xs₀ xs i q (numbers_of (steps_in w place 0 rows first n ps))

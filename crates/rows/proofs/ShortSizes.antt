@@ -172,5 +172,3 @@ module _ (w reg off : ℕ) (lo : 2 ≤ w) (hi : w ≤ 8) (r : reg ≤ 63) where
   sized kind t {y} e h p q =
       let s = kinds (Sized w reg off) sized_0 sized_1 sized_2 sized_3 sized_4 sized_5 sized_6 sized_7 sized_8 sized_9 sized_10 kind (row_numbers kind reg off t).kind_low in
       rw (p, q, e) (sym (s t (rw (← e) h)))
-
--- ---- the code's parts

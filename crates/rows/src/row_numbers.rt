@@ -72,7 +72,7 @@ impl RowNumbers {
 
     // The row's operation.
     // Kept: beside `row`. By `row(out, at, word, self.row())` a row is stored, passed on and matched again, 29 instructions more of some 115 for each
-    // row (tried); the writer takes 0.85 to 0.86 of the Rust's time (docs/PERFORMANCE.md), and would take more than all of it.
+    // row (tried); the writer takes some nine tenths of the Rust's time (docs/PERFORMANCE.md), and would take more than all of it.
     // Kept: a writer's buffer and place, as in leb.
     pub fn put(self, out: &mut [u8], at: usize, word: Word) -> usize
         requires { at + length (row_bytes word.bytes (means self)) ≤ length out.old }

@@ -13,6 +13,7 @@ use Rattle.format.specs.declared.Row.TheVariants.{RememberState, RestoreState}
 use Rattle.format.specs.Rows.{RowAt, kind_of}
 use Rattle.format.specs.Headers.{leads, ahead}
 use Rattle.format.specs.RowCheck.{may_lead, in_order, rows_of}
+use Rattle.format.proofs.ListLaws.{none_held}
 use Rattle.rules.specs.declared.Order.{Order}
 use Rattle.std.specs.Prelude.{Some, None}
 use Rattle.std.specs.Bool.{then_some}
@@ -89,10 +90,6 @@ module _ (o : Order) (first : Bool) (r : Row) (framed : Bool) (k : eqb (kind_of 
 
 -- ---- rows that open and close
 
-no_items : (xs : List Bool) → (0 < length xs → ⊥) → xs ≡ []
-no_items [] n = refl
-no_items (x ∷ xs) n = absurd (n (omega arith))
-
 module _ (o : Order) (first : Bool) where
   -- a RememberState, where 16 are open and where fewer are
   pub full : length o.marks.items ≡ 16 → Steps o first RememberState None
@@ -113,7 +110,7 @@ module _ (o : Order) (first : Bool) where
   pub none_open : (0 < length o.marks.items → ⊥) → Steps o first RestoreState None
   unfolding kind_of in_order pick
   none_open n =
-      let e = no_items o.marks.items n in
+      let e = none_held o.marks.items n in
       decided o first RestoreState (record { leading = first; framed = o.framed; marks = o.marks }) false false (sym (and-true first))
       (sym (and-false (pick (still_leads first RestoreState) (may_lead RestoreState) true))) (λ rs. rw e)
 

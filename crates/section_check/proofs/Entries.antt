@@ -9,7 +9,7 @@ use lib.Dec.{T}
 use lib.ListN.{drop, get_elem?}
 use Rattle.format.specs.Prelude.{pick, Read, next, after, Result, bad, onward, or_else}
 use Rattle.format.specs.Leb.{read_little}
-use Rattle.format.proofs.Asked.{option_of}
+use Rattle.format.proofs.Asked.{option_of, value_is, none_is}
 use Rattle.format.proofs.Onward.{onward_assoc}
 use Rattle.std.specs.Prelude.{Some, None, Ok, Err}
 use Rattle.std.specs.Prelude as code
@@ -28,7 +28,6 @@ use Rattle.reader.specs.Spans.{part, entry_in, entry_of, listed, Stands, Spans}
 use Rattle.reader.specs.Finds.{found, Stated, Locates, in_section, rules_from}
 use Rattle.reader.specs.declared.location.Located.{Located}
 use Rattle.reader.specs.declared.section.Span.{Span}
-use Rattle.reader.proofs.Seeking.{number_is, number_none}
 use Rattle.operations.proofs.PositionLaws.{both_are}
 use Rattle.reader.proofs.Asked.{place_found, place_refused, all_inside}
 use Rattle.section_check.specs.Check.{length_of, answers, read_at, last_answers, passes}
@@ -42,12 +41,12 @@ module _ (s : List ℕ) (at end : ℕ) where
 
   pub no_place : None ≡ option_of (distance_back (entry_in s at end)) → header_of ≡ none
   unfolding after
-  no_place e = rw (number_none (distance_back (entry_in s at end)) (sym e))
+  no_place e = rw (none_is (distance_back (entry_in s at end)) (sym e))
 
   module _ {place : ℕ} (e : Some place ≡ option_of (distance_back (entry_in s at end))) where
     pub place_of : header_of ≡ header_at false place at (listed (entries s))
     unfolding after
-    place_of = rw (number_is (distance_back (entry_in s at end)) (sym e))
+    place_of = rw (value_is (distance_back (entry_in s at end)) (sym e))
 
 -- ---- the length
 
@@ -133,16 +132,16 @@ last_in_lem s word e (suc n) z = let m : suc n - 1 ≡ n = omega arith in rw m
 module _ (s : List ℕ) (word at end : ℕ) {r : code.Option ℕ} (m : r ≡ option_of (length_of (entry_in s at end))) where
   pub no_size : r ≡ None → false ≡ passes_in s word (entry_in s at end)
   unfolding passes_in last_in
-  no_size e = rw (number_none _ (sym m ∙ e))
+  no_size e = rw (none_is _ (sym m ∙ e))
 
   module _ {n : ℕ} (e : r ≡ Some n) where
     pub size_zero : n ≡ 0 → true ≡ passes_in s word (entry_in s at end)
     unfolding passes_in last_in
-    size_zero z = rw (number_is _ (sym m ∙ e), z)
+    size_zero z = rw (value_is _ (sym m ∙ e), z)
 
     pub size_more : (n ≡ 0 → ⊥) → answers_in s word (entry_in s at end) (n - 1) ≡ passes_in s word (entry_in s at end)
     unfolding passes_in
-    size_more z = rw (number_is _ (sym m ∙ e)) (last_in_lem s word (entry_in s at end) n z)
+    size_more z = rw (value_is _ (sym m ∙ e)) (last_in_lem s word (entry_in s at end) n z)
 
 -- ---- record k
 

@@ -5,7 +5,7 @@ use mathlib.Core.Option.{Option, none, some}
 use mathlib.Core.List.{List, [], ◌∷◌}
 use Prim.Native.Nat.{ℕ, zero, suc, ◌+◌, ◌≤◌, ◌<◌}
 use native.Mathlib.Omega.{arith}
-use lib.Dec.{T}
+use lib.Dec.{T, T_not}
 use lib.ListN.{get_elem?}
 use Rattle.format.specs.Prelude.{pick}
 use Rattle.format.specs.Machine.{is_word_size}
@@ -70,10 +70,6 @@ record FirstOf (section : List ℕ) (word k : ℕ) (es : List Entry) (r : ℕ) :
   there : get_elem? es index ≡ some entry
   fails : Passes section word r entry → ⊥
   earlier : (j : ℕ) (e : Entry) → j < index → get_elem? es j ≡ some e → Passes section word (k + j) e
-
-refuted : (b : Bool) → T (not b) → T b → ⊥
-refuted true n t = absurd n
-refuted false n t = absurd t
 
 -- the word, by question 11 of an eh_frame section
 pub word_asked : (b : Bool) {c : Bool} → b && true ≡ c → b ≡ c
@@ -146,7 +142,7 @@ module _ (section : List ℕ) (word : ℕ) where
         place = omega arith;
         entry = x;
         there = refl;
-        fails = λ a. refuted (passes section word k x) t ((test_says section word k x).1 a);
+        fails = λ a. T_not (passes section word k x) t ((test_says section word k x).1 a);
         earlier = λ j e h s. absurd (omega arith);
       }))
 

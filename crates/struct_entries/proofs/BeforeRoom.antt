@@ -19,6 +19,7 @@ use Rattle.format.specs.Lists.{count, function_stride, lists_ok}
 use Rattle.format.specs.Questions.{Question, Given, Room, Answer, empty, ask, and_then, unless, given_asks, windows_asks, windows_answer, dwarf_answer, dwarf_given, given_functions, relaxed_table, relaxed_debug_frame}
 use Rattle.format.specs.Answers.{outcome_of}
 use Rattle.format.proofs.Choice.{either}
+use Rattle.format.proofs.Accepted.{and_then_assoc}
 use Rattle.unwind.proofs.Formats.{none_given, none_given_debug, elf_given, coff_given, mach_o_given, no_table, no_format, other_debug, debug_given}
 use Rattle.struct_entries.specs.Entries.{once_ready, table_is_empty, table_asks, debug_frame_is_empty, debug_frame_asks}
 
@@ -116,11 +117,6 @@ unfolding and_then
 and_none none = refl
 and_none (some x) = refl
 
-and_assoc : (p q s : Question) → and_then p (and_then q s) ≡ and_then (and_then p q) s
-unfolding and_then
-and_assoc none q s = refl
-and_assoc (some x) q s = refl
-
 asked : (p q : Question) (a : Answer) → once_ready false p true (unless (and_then p q) a) ≡ unless (and_then p q) a
 unfolding once_ready unless and_then ask pick
 asked none q a = refl
@@ -191,7 +187,7 @@ module _ (format : ℕ) (g : Given) (r : Room) where
     coff e =
         asks_itself (table_is_empty format n) (table_asks format g.machine) lists (windows_answer (machine_of g.machine) (given_functions g) r) (relaxed_table format g r) (full (omega arith))
         (coff_given format g r h e
-        ∙ ap (λ (p : Question). unless p (windows_answer (machine_of g.machine) (given_functions g) r)) (and_assoc machine_ok_lem word_ok lists)
+        ∙ ap (λ (p : Question). unless p (windows_answer (machine_of g.machine) (given_functions g) r)) (and_then_assoc machine_ok_lem word_ok lists)
         ∙ ap (λ (p : Question). unless (and_then p lists) (windows_answer (machine_of g.machine) (given_functions g) r)) (sym (asks_coff e)))
 
     other : 4 < format → Same

@@ -1,7 +1,7 @@
 -- The structs that are stored in the lent list are the two lists that the writers are handed.
 use mathlib.Core.Path.{◌≡◌, refl, sym, ap, subst, ◌∙◌}
 use Prim.Native.Nat.{ℕ, ◌+◌, ◌*◌, ◌≤◌}
-use mathlib.Core.Bool.{Bool, true, false, not, ◌&&◌}
+use mathlib.Core.Bool.{Bool, true, false, not}
 use mathlib.Core.List.{List, ◌++◌, append_assoc}
 use native.Mathlib.Omega.{arith}
 use lib.Dec.{T, leb}
@@ -12,6 +12,7 @@ use Rattle.format.specs.Put.{put}
 use Rattle.format.specs.Prelude.{pick, all}
 use Rattle.format.specs.Questions.{Question, Given, Room, Answer, relaxed_table, relaxed_debug_frame}
 use Rattle.format.proofs.PutLaws.{length-put, put-append, front_is}
+use Rattle.format.proofs.Choice.{is_false}
 use Rattle.struct_entries.specs.declared.RowAt.{RowAt}
 use Rattle.struct_entries.specs.declared.Function.{Function}
 use Rattle.struct_entries.specs.Structs.{row_numbers, function_numbers, numbers_of}
@@ -23,14 +24,7 @@ use Rattle.unwind.specs.Entries.{Exports}
 use Rattle.struct_entries.specs.Entries.{needed, is_zero, ready_for, cleared, packed, numbers_in, meant, once_ready, table_is_empty, table_asks, relaxed_table_of, debug_frame_is_empty, debug_frame_asks, relaxed_debug_frame_of}
 use Rattle.struct_entries.proofs.Zeros.{restored}
 use Rattle.struct_entries.proofs.Parts.{same_exports, not_reached}
-
-both : (a b : Bool) → (a && b) ≡ true → (a ≡ true) × (b ≡ true)
-both true b e = (refl, e)
-both false b e = absurd (subst T (sym e) tt)
-
-tested_no : (t : Bool) → T (not t) → false ≡ t
-tested_no true h = absurd h
-tested_no false h = refl
+use Rattle.std.proofs.lemmas.Bool.{and_parts}
 
 tested_yes : (t : Bool) → T (not (not t)) → true ≡ t
 tested_yes true h = refl
@@ -112,11 +106,11 @@ module _ (xs : List ℕ) (fs : List Function) (rs : List RowAt) where
   module _ (ok : Bool) (e : ok ≡ said) where
     enough : ok ≡ true → needed f r ≤ length xs
     unfolding ready_for
-    enough h = leb-true (needed f r) (length xs) (both (leb (needed f r) (length xs)) (all is_zero (take (needed f r) xs)) (sym e ∙ h)).0
+    enough h = leb-true (needed f r) (length xs) (and_parts (leb (needed f r) (length xs)) (all is_zero (take (needed f r) xs)) (sym e ∙ h)).0
 
     zero : ok ≡ true → T (all is_zero (take (needed f r) xs))
     unfolding ready_for
-    zero h = subst T (sym (both (leb (needed f r) (length xs)) (all is_zero (take (needed f r) xs)) (sym e ∙ h)).1) tt
+    zero h = subst T (sym (and_parts (leb (needed f r) (length xs)) (all is_zero (take (needed f r) xs)) (sym e ∙ h)).1) tt
 
     pub kept : (zs : List ℕ) → zs ≡ pick ok (put xs 0 ns) xs → length zs ≡ length xs
     kept zs z = ap length z ∙ either_long ok xs (put xs 0 ns) (length-put xs 0 ns)
@@ -127,7 +121,7 @@ module _ (xs : List ℕ) (fs : List Function) (rs : List RowAt) where
     -- what `pack` answers and leaves, by the test that it branches on
     pub says_no : T (not ok) → (false ≡ said) × (xs ≡ pick false (put xs 0 ns) xs)
     unfolding pick
-    says_no t = (tested_no ok t ∙ e, refl)
+    says_no t = (sym (is_false ok t) ∙ e, refl)
 
     pub fits_yes : T (not (not ok)) → needed f r ≤ length xs
     fits_yes t = enough (sym (tested_yes ok t))

@@ -1,4 +1,4 @@
--- A list that is zero as far as it is needed: the test, what is stored and cleared again, and what `ready` answers.
+-- A list that is zero as far as it is needed: what is stored and cleared again, and what `ready` answers.
 use mathlib.Core.Path.{◌≡◌, refl, sym, ap, ◌∙◌}
 use Prim.Native.Nat.{ℕ, ◌+◌, ◌≤◌}
 use mathlib.Core.Bool.{Bool, true, false, not, ◌&&◌}
@@ -8,16 +8,10 @@ use lib.Dec.{T, leb, eqb}
 use lib.ListN.{length, take, drop, set, replicate, length-append, length-replicate, length-drop, take-append-drop}
 use lib.Seq.{drop-set-lt, length-take-le}
 use borrow.Author.Tests.{eqb-true, not-true, not-false}
-use Rattle.std.specs.List.{list_all}
 use Rattle.format.specs.Prelude.{all}
 use Rattle.format.specs.Put.{put}
 use Rattle.format.proofs.PutLaws.{put_none, put_cons}
 use Rattle.struct_entries.specs.Entries.{needed, is_zero, ready_for, cleared}
-
-pub all_is : {A : Type 0} (test : A → Bool) (xs : List A) → list_all test xs ≡ all test xs
-unfolding all
-all_is test [] = refl
-all_is test (x ∷ xs) = ap (λ (b : Bool). test x && b) (all_is test xs)
 
 -- ---- what is cleared
 

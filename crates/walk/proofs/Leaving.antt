@@ -6,12 +6,10 @@ use mathlib.Core.List.{List}
 use Prim.Native.Nat.{ℕ}
 use lib.ListN.{get_or}
 use lib.IntN.{ℤ}
-use native.Mathlib.Omega.{arith}
-use Rattle.std.specs.Prelude.{Some, None, Ok, Err}
+use Rattle.std.specs.Prelude.{Some, None, Err}
 use Rattle.std.specs.Prelude as code
 use Rattle.std.specs.Option.{ok_or}
 use Rattle.format.specs.Coded.{result_of, numbered}
-use Rattle.format.specs.declared.question.Question.{Question}
 use Rattle.format.specs.declared.question.Question.TheVariants.{Stack}
 use Rattle.format.proofs.Asked.{option_of, none_is, value_is}
 use Rattle.format.specs.Prelude.{after, good, bad, onward, or_else}
@@ -19,15 +17,6 @@ use Rattle.format.specs.declared.CfaRule.{CfaRule}
 use Rattle.format.specs.declared.CfaRule.TheVariants.{Unset, Register}
 use Rattle.walk.specs.Recorded.{Slot}
 use Rattle.walk.specs.Walk.{Memory, sum_of, load, saved, frame_address, unsigned, returned_to}
-
--- what stands in front of a `?`: the value that was there, or that there was none and by what is refused
-pub given : {A : Type 0} (o : code.Option A) (q : Question) {x : A} → ok_or o q ≡ Ok x → o ≡ Some x
-given None q e = let f : ◌≡◌ {A = ℕ} 0 1 = cc in absurd (omega arith)
-given (Some y) q e = cc
-
-pub lacking : {A : Type 0} (o : code.Option A) (q : Question) {e : Question} → ok_or o q ≡ Err e → (o ≡ None) × (q ≡ e)
-lacking None q e = (refl, cc)
-lacking (Some y) q e = let f : ◌≡◌ {A = ℕ} 0 1 = cc in absurd (omega arith)
 
 module _ (m : Memory) (cfa : ℕ) (z : ℤ) where
   pub saved_none : None ≡ option_of (after (sum_of cfa z) (load m)) → bad 74 ≡ saved m cfa z

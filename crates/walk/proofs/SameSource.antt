@@ -10,7 +10,7 @@ use lib.Dec.{T, leb, ltb, eqb, ltb→lt}
 use mir.Facts.{and_yes}
 use Rattle.format.specs.Prelude.{pick, after, Result, bad, onward, or_else}
 use Rattle.format.specs.Machine.{machine_of, machine_ok}
-use Rattle.format.proofs.WalkBack.{onward_ext}
+use Rattle.format.proofs.Onward.{onward_ext}
 use Rattle.walk.specs.Recorded.{read_recorded}
 use Rattle.walk.specs.Walk.{Source, Placed, Fault, Chain, most_frames, holds, Held, held_from, Caller, looked_up, caller_of, held_by_none, return_undefined, behind, or_ended, held_at, frames_f, placed_of, fitting, walk_by}
 

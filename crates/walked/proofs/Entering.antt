@@ -7,7 +7,7 @@ use mathlib.Core.List.{List, [], ◌∷◌}
 use lib.Dec.{eqb}
 use lib.ListN.{length}
 use Rattle.format.specs.Prelude.{pick, Result, good, bad, onward, or_else}
-use Rattle.std.specs.Prelude.{Some, None, Ok, Err}
+use Rattle.std.specs.Prelude.{Ok, Err}
 use Rattle.std.specs.Prelude as code
 use Rattle.format.specs.Put.{put}
 use Rattle.format.specs.declared.Machine.{Machine}
@@ -18,7 +18,6 @@ use Rattle.walk.specs.Walk.{Source, Memory, frame_numbers, frames_f, fitting, wa
 use Rattle.walk.specs.Walk as walk
 use Rattle.format.specs.Numbers.{number_of}
 use Rattle.format.specs.declared.question.Question.{Question}
-use Rattle.format.specs.declared.question.Question.TheVariants.{Interface}
 use Rattle.walked.specs.Endings.{ending_number}
 use Rattle.walked.specs.declared.chain.Chain.{Chain}
 use Rattle.walked.specs.Standing.{walked_of, fault_of}
@@ -42,24 +41,6 @@ module _ (ms : List ℕ) (frames : Result walk.Chain) where
     pub right_word : m.word ≡ 8 → frames ≡ asked
     unfolding pick
     right_word e = rw (ok, ← is) (sym (if-eq m.word 8 frames (bad 12) e))
-
--- the answer of question 11
-module _ (ms : List ℕ) {r : code.Result Machine Question} (h : r ≡ pick (machine_ok ms) (Ok (machine_of ms)) (Err Interface)) where
-  read_by : (b : Bool) → r ≡ pick b (Ok (machine_of ms)) (Err Interface) → {m : Machine} → r ≡ Ok m → (b ≡ true) × (m ≡ machine_of ms)
-  unfolding pick
-  read_by true k e = (refl, cc)
-  read_by false k e = cc
-
-  unread_by : (b : Bool) → r ≡ pick b (Ok (machine_of ms)) (Err Interface) → {q : Question} → r ≡ Err q → (b ≡ false) × (q ≡ Interface)
-  unfolding pick
-  unread_by true k e = cc
-  unread_by false k e = (refl, cc)
-
-  pub machine_read : {m : Machine} → r ≡ Ok m → (machine_ok ms ≡ true) × (m ≡ machine_of ms)
-  machine_read e = read_by (machine_ok ms) h e
-
-  pub machine_unread : {q : Question} → r ≡ Err q → (machine_ok ms ≡ false) × (q ≡ Interface)
-  machine_unread e = unread_by (machine_ok ms) h e
 
 -- the frames, by what the code made of the machine
 pub frames_of_lem : (src : Source) (memory : Memory) (functions : List ℕ) (start : walk.Caller) {m n : Machine} → m ≡ n

@@ -20,6 +20,7 @@ use Rattle.walk.specs.Recorded.{Slot}
 use Rattle.walk.specs.Walk.{Memory, Ruled, left_by, left_from, left, frame_address, undefined, returned_to, caller_of, by_section}
 use Rattle.format.specs.Coded.{result_of}
 use Rattle.format.specs.declared.Machine.{Machine}
+use Rattle.format.proofs.Onward.{onward_pick}
 use mathlib.Core.Option.{none, some}
 use lib.ListN.{length, set}
 use Rattle.walked.specs.Standing.{state_in, is_good, rules_of, rules_in, ruled_in, source_in}
@@ -120,11 +121,6 @@ module _ (s : List ℕ) (l : Located) (p : ℕ) where
     pub caller_unread : {n : ℕ} → state_in s l p ≡ bad n → bad n ≡ onward (source_in s l p) (λ u. caller_of k m u before)
     unfolding source_in onward
     caller_unread e = rw e
-
-onward_pick : {A B : Type 0} (b : Bool) (x : Result A) (k : A → Result B) → pick b (onward x k) (bad 11) ≡ onward (pick b x (bad 11)) k
-unfolding pick onward
-onward_pick true x k = refl
-onward_pick false x k = refl
 
 module _ (section relocations : List ℕ) (kind k p : ℕ) where
   by_section_lem : by_section section relocations kind k p

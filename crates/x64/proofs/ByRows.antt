@@ -2,7 +2,7 @@
 use mathlib.Core.Path.{◌≡◌, refl, sym, ap, ◌∙◌}
 use Prim.Native.Nat.{ℕ, zero, suc, ◌^◌, ◌<◌}
 use native.Mathlib.Omega.{arith}
-use mathlib.Core.Bool.{Bool, true, false, ◌&&◌}
+use mathlib.Core.Bool.{true, false, ◌&&◌}
 use mathlib.Core.Option.{none, some}
 use mathlib.Core.List.{List, [], ◌∷◌}
 use lib.Dec.{T, leb, eqb, leb→le, eqb→eq}
@@ -11,7 +11,6 @@ use lib.Seq.{length-take-le}
 use Rattle.format.specs.Prelude.{pick, Result, good, bad, each}
 use Rattle.format.specs.declared.Machine.{Machine}
 use Rattle.std.specs.Prelude.{Err}
-use Rattle.std.specs.Prelude as outcome
 use Rattle.format.specs.Coded.{Outcome}
 use Rattle.format.specs.Machine.{machine_of, machine_ok}
 use Rattle.format.specs.Lists.{Function, Prologue, field, count, function_stride, row_stride, landing_stride, pair_stride, most_functions, most_records, sum_of, pairs_in, inside, symbol_ok, pointer_ok, mark_ok, when_marked, all_in, row_ok_at, pair_ok_at, function_ok_at, lists_ok, function_at, functions_of}
@@ -20,7 +19,7 @@ use Rattle.format.specs.Questions.{Question, Room, Answer, Prologues, made, stop
 use Rattle.format.specs.Answers.{outcome_of, afterwards, Writes}
 use Rattle.format.proofs.Accepted.{machine_fits}
 use Rattle.format.proofs.Choice.{is_yes_lem}
-use Rattle.format.proofs.ListLaws.{chained, part_of, at_each, symbol_small}
+use Rattle.format.proofs.ListLaws.{chained, part_of, at_each, symbol_small, within}
 use Rattle.lists.proofs.Machines.{long}
 use Rattle.prologue.specs.declared.given.X64Machine.{X64Machine}
 use Rattle.x64.specs.declared.given.Source.{Source}
@@ -29,7 +28,7 @@ use Rattle.x64.specs.Answers.{ask_each}
 use Rattle.x64.specs.Listed.{stride_of, Listed, ListedAt}
 use Rattle.x64.specs.Sources.{by_rows, result_at, rows_no, codes_no, length_at, rows_at, codes_at, or_none, found_at, asks_of, table_of}
 use Rattle.x64.proofs.Asked.{each_yes}
-use Rattle.x64.proofs.Entries.{unless_then, per_each, ask_long, within_of}
+use Rattle.x64.proofs.Entries.{unless_then, per_each, ask_long}
 
 -- ---- prologues, or the first no
 
@@ -112,17 +111,6 @@ map_long : (ms : List ℕ) → T (machine_ok ms) → length (machine_of ms).map 
 unfolding machine_of
 map_long ms t = length-take-le 64 (drop 6 ms) (simp length-drop (omega (arith, long ms t)))
 
--- the answer of question 11
-pub machine_yes : {M Q : Type 0} (b : Bool) (x y : M) (q : Q) → outcome.Ok y ≡ pick b (outcome.Ok x) (outcome.Err q) → (b ≡ true) × (y ≡ x)
-unfolding pick
-machine_yes true x y q e = (refl, cc)
-machine_yes false x y q e = cc
-
-pub machine_no : {M Q : Type 0} (b : Bool) (x : M) (q p : Q) → outcome.Err p ≡ pick b (outcome.Ok x) (outcome.Err q) → (b ≡ false) × (p ≡ q)
-unfolding pick
-machine_no true x q p e = cc
-machine_no false x q p e = (refl, cc)
-
 -- what the struct of a machine of eight bytes holds
 pub machine_known : (ms : List ℕ) {m : Machine} → machine_ok ms ≡ true → m ≡ machine_of ms → eqb m.word 8 ≡ true
     → (length m.map ≡ 64) × (m.word ≡ 8) × (m.pushed < 2 ^ 31)
@@ -160,7 +148,7 @@ module _ (x : X64Machine) (fs rows landings pairs : List ℕ) (l : T (lists_ok f
       within = omega arith;
       symbol = symbol_small (field function_stride fs k 0) (tells k h).0;
       records = (
-        record { inside = within_of (field function_stride fs k 2) (field function_stride fs k 3) (count row_stride rows) (tells k h).1; ok = (tells k h).2 },
+        record { inside = within (field function_stride fs k 2) (field function_stride fs k 3) (count row_stride rows) (tells k h).1; ok = (tells k h).2 },
         omega (arith, part_of (λ i. field function_stride fs i 3) total k h, leb→le (sum_of (λ i. field function_stride fs i 3) 0 total) most_records (says 1)),
       );
     };

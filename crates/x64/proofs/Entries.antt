@@ -1,6 +1,6 @@
 -- The definitions' answers by the passes over the functions, for direct codes and for rows.
 use mathlib.Core.Path.{◌≡◌, refl, sym}
-use Prim.Native.Nat.{ℕ, zero, suc, ◌+◌, ◌^◌, ◌≤◌, ◌<◌}
+use Prim.Native.Nat.{ℕ, zero, suc, ◌+◌, ◌^◌, ◌<◌}
 use native.Mathlib.Omega.{arith}
 use mathlib.Core.Bool.{Bool, true, false}
 use mathlib.Core.Option.{Option, none, some}
@@ -14,7 +14,7 @@ use Rattle.format.specs.X64.{x64}
 use Rattle.format.specs.Questions.{Question, Room, Answer, ask, and_then, no_at, unless, fitting, per_function, code_asks, codes_answer, short_ones, seh}
 use Rattle.std.specs.Prelude.{None, Ok, Err}
 use Rattle.format.specs.Answers.{outcome_of, afterwards, Writes}
-use Rattle.format.proofs.ListLaws.{chained, part_of, at_each, symbol_small}
+use Rattle.format.proofs.ListLaws.{chained, part_of, at_each, symbol_small, within}
 use Rattle.x64.specs.declared.given.Source.TheVariants.{Direct}
 use Rattle.x64.specs.Answers.{ask_each}
 use Rattle.x64.specs.Listed.{stride_of, Listed, ListedAt}
@@ -46,12 +46,6 @@ ask_pick false k = refl
 pub ask_long : (size k : ℕ) → ask (ltb size (2 ^ 32)) 21 k ≡ no_at k (long_no size)
 unfolding long_no
 ask_long size k = ask_pick (ltb size (2 ^ 32)) k
-
--- ---- question 13
-
-pub within_of : (at n size : ℕ) → T (inside at n size) → at + n ≤ size
-unfolding inside
-within_of at n size t = leb→le (at + n) size t
 
 -- ---- direct codes
 
@@ -99,7 +93,7 @@ module _ (fs codes : List ℕ) (t : T (codes_ok fs codes)) where
     each_one = λ k h. record {
       within = omega arith;
       symbol = symbol_small (field prologue_stride fs k 0) (tells k h 0);
-      records = (within_of (field prologue_stride fs k 3) (field prologue_stride fs k 4) (count code_stride codes) (tells k h 1), omega (arith, part_of (λ i. field prologue_stride fs i 4) (count prologue_stride fs) k h, leb→le (sum_of (λ i. field prologue_stride fs i 4) 0 (count prologue_stride fs)) most_records (says 1)));
+      records = (within (field prologue_stride fs k 3) (field prologue_stride fs k 4) (count code_stride codes) (tells k h 1), omega (arith, part_of (λ i. field prologue_stride fs i 4) (count prologue_stride fs) k h, leb→le (sum_of (λ i. field prologue_stride fs i 4) 0 (count prologue_stride fs)) most_records (says 1)));
     };
   }
 

@@ -1,6 +1,6 @@
 -- The codes of a function as a part of their list.
 use mathlib.Core.Path.{◌≡◌, refl, ap, ◌∙◌}
-use Prim.Native.Nat.{ℕ, zero, suc, ◌+◌, ◌-◌, ◌*◌, ◌≤◌, ◌<◌}
+use Prim.Native.Nat.{ℕ, zero, suc, ◌+◌, ◌*◌, ◌≤◌, ◌<◌}
 use native.Mathlib.Omega.{arith}
 use mathlib.Core.List.{List}
 use lib.ListN.{length, take, drop, get_or, length-drop}
@@ -34,7 +34,3 @@ module _ (list : List ℕ) (at n : ℕ) where
 
     pub part_codes : each (code_at part) 0 (count code_stride part) ≡ each (code_at list) at n
     part_codes = let z : at + 0 ≡ at = omega arith in rw part_count (rw z at (part_each 0 n (omega arith)))
-
--- the end of a part less its start
-pub behind : (at n : ℕ) → at + n - at ≡ n
-behind at n = omega arith

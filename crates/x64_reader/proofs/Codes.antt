@@ -3,21 +3,21 @@ use mathlib.Core.Path.{◌≡◌, refl}
 use Prim.Native.Nat.{ℕ, zero, suc, ◌+◌, ◌-◌, ◌*◌, ◌/◌, ◌%◌, ◌^◌, ◌≤◌, ◌<◌}
 use native.Mathlib.Omega.{arith}
 use native.Mathlib.Nat.{pow-le-pow_right}
-use mathlib.Core.Bool.{Bool, true, false, ◌||◌}
+use mathlib.Core.Bool.{true, ◌||◌}
 use mathlib.Core.Option.{Option, none, some}
 use mathlib.Core.List.{List, [], ◌∷◌}
 use lib.Dec.{lit<, eqb}
 use lib.ListN.{length, get_or, drop, length-drop}
 use lib.Seq.{drop-cons, drop-drop, get_or-drop}
 use Rattle.std.specs.Prelude.{Some, None}
-use Rattle.format.proofs.Asked.{option_of}
-use Rattle.format.specs.Prelude.{pick, Read, next, after}
+use Rattle.format.specs.Prelude.{Read, next, after}
 use Rattle.format.specs.Leb.{read_little}
 use Rattle.operations.specs.Positions.{read_from, little_at}
 use Rattle.operations.specs.declared.fields.Position.{Position}
 use Rattle.format.specs.X64Reader.{operand_bytes, meaning, read_operand, read_code}
 use Rattle.operations.proofs.PositionLaws.{Takes, nothing, taken, takes_little, past_at, both_are, little_none}
 use Rattle.format.specs.declared.Seh.{Seh}
+use Rattle.format.proofs.Choice.{picked}
 use Rattle.x64_reader.specs.Reads.{Small, CodeThere}
 
 -- ---- a field of bytes
@@ -75,32 +75,19 @@ field_there {n} s p low e = taken_field s p low (takes_little n (drop p.at s)) e
 
 -- ---- an operation's operand
 
-pub bytes_op : (r : Option ℕ) {n : ℕ} → Some n ≡ option_of r → r ≡ some n
-bytes_op none e = let z : ◌≡◌ {A = ℕ} 0 1 = cc in absurd (omega arith)
-bytes_op (some m) e = cc
-
-pub bad_op : (r : Option ℕ) → None ≡ option_of r → r ≡ none
-bad_op none e = refl
-bad_op (some m) e = let z : ◌≡◌ {A = ℕ} 0 1 = cc in absurd (omega arith)
-
 -- an operand has at most four bytes
 abbrev Few : Option ℕ → Type 0
 Few none = 0 ≤ 4
 Few (some n) = n ≤ 4
 
-few_pick : (b : Bool) (r t : Option ℕ) → Few r → Few t → Few (pick b r t)
-unfolding pick
-few_pick true r t f g = f
-few_pick false r t f g = g
-
 few_bytes : (op info : ℕ) → Few (operand_bytes op info)
 unfolding operand_bytes
 few_bytes op info =
-    few_pick (eqb op 0 || eqb op 2 || eqb op 3) (some 0) _ (omega arith)
-    (few_pick (eqb op 4 || eqb op 8) (some 2) _ (omega arith)
-    (few_pick (eqb op 5 || eqb op 9) (some 4) _ (omega arith)
-    (few_pick (eqb op 1) _ none
-    (few_pick (eqb info 0) (some 2) _ (omega arith) (few_pick (eqb info 1) (some 4) none (omega arith) (omega arith))) (omega arith))))
+    picked Few (eqb op 0 || eqb op 2 || eqb op 3) {x = some 0} (omega arith)
+    (picked Few (eqb op 4 || eqb op 8) {x = some 2} (omega arith)
+    (picked Few (eqb op 5 || eqb op 9) {x = some 4} (omega arith)
+    (picked Few (eqb op 1) {y = none}
+    (picked Few (eqb info 0) {x = some 2} (omega arith) (picked Few (eqb info 1) {x = some 4} {y = none} (omega arith) (omega arith))) (omega arith))))
 
 pub few_op : (op info : ℕ) {n : ℕ} → operand_bytes op info ≡ some n → n ≤ 4
 few_op op info e = rw e at (few_bytes op info)

@@ -2,8 +2,7 @@
 use mathlib.Core.Path.{◌≡◌, refl, ◌∙◌}
 use Prim.Native.Nat.{ℕ, ◌*◌, ◌/◌, ◌≤◌, ◌<◌}
 use native.Mathlib.Omega.{arith}
-use mathlib.Core.Bool.{Bool, true, false}
-use mir.Val.{bool_byte}
+use mathlib.Core.Bool.{Bool, false}
 use mathlib.Core.Option.{Option, none, some}
 use mathlib.Core.List.{List, [], ◌∷◌}
 use lib.ListN.{length, get_or, drop}
@@ -15,12 +14,6 @@ use Rattle.format.proofs.Choice.{pick_yes, if-le, if-gt}
 use Rattle.std.specs.Prelude.{Some, None}
 use Rattle.operations.proofs.PositionLaws.{both_are}
 use Rattle.x64_reader.specs.Reads.{counted_of, Held, stored_of, HeaderThere}
-
--- a mark's byte
-pub marked : (b : Bool) → bool_byte b ≡ bit b
-unfolding bit
-marked true = refl
-marked false = refl
 
 -- the answer as numbers, and the lent list at exit
 abbrev pub Answers : Result Info → List ℕ → (old new : List ℕ) → Type 0

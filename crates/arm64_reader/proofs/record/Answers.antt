@@ -1,11 +1,11 @@
 -- `arm64_reader::record` meets its contract.
 use mathlib.Core.Path.{sym, ◌∙◌}
 use native.Mathlib.Omega.{arith}
-use Rattle.format.proofs.Asked.{none_is, value_is}
+use Rattle.format.proofs.Asked.{none_is, value_is, given, lacking}
 use Rattle.format.specs.declared.question.Question.TheVariants.{X64Header}
 use Rattle.arm64_records.specs.Parts.{headed_at}
 use Rattle.arm64_records.proofs.Lent.{same}
-use Rattle.arm64_reader.proofs.Answers.{given, lacking, refuses, no_record, by_header}
+use Rattle.arm64_reader.proofs.Answers.{refuses, no_record, by_header}
 use Rattle.arm64_reader.proofs.record.Goals as goal
 
 pub returns-in_err-h : goal.returns-in_err-h

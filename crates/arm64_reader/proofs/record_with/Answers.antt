@@ -7,7 +7,7 @@ use lib.ListN.{length}
 use Rattle.std.specs.Prelude.{Ok}
 use Rattle.format.proofs.PutLaws.{length-put}
 use Rattle.format.specs.declared.question.Question.TheVariants.{X64Codes}
-use Rattle.format.proofs.Asked.{none_is, value_is}
+use Rattle.format.proofs.Asked.{none_is, value_is, given, lacking}
 use Rattle.arm64.specs.Lists.{code_numbers}
 use Rattle.arm64.specs.Meaning.{reverse}
 use Rattle.arm64.specs.Reader.{run_at, record_epilogues, record_unwound, unwound}
@@ -17,7 +17,7 @@ use Rattle.arm64_records.specs.Parts.{total_of, how_many}
 use Rattle.arm64_records.proofs.Epilogues.{counted_run, no_run}
 use Rattle.arm64_records.proofs.Whole.{codes_short}
 use Rattle.arm64_records.proofs.Lent.{same}
-use Rattle.arm64_reader.proofs.Answers.{Counts, given, lacking, refuses, found_none, record_no_run, record_no_epilogues, total_none, recorded, record_found, record_counts, has_room, no_room, stored}
+use Rattle.arm64_reader.proofs.Answers.{Counts, refuses, found_none, record_no_run, record_no_epilogues, total_none, recorded, record_found, record_counts, has_room, no_room, stored}
 use Rattle.arm64_reader.proofs.record_with.Goals as goal
 use Rattle.arm64_reader.proofs.record_with.Goals.{After-epilogues_in-k}
 

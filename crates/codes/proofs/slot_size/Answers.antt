@@ -3,8 +3,8 @@ use mathlib.Core.Path.{◌≡◌, sym, ap, ◌∙◌}
 use Prim.Native.Nat.{◌/◌}
 use Rattle.std.specs.Option.{is_some}
 use Rattle.format.specs.Prelude.{pick}
+use Rattle.format.proofs.Choice.{is_some_picked}
 use Rattle.codes.specs.Codes.{is_near}
-use Rattle.codes.proofs.Forms.{is_some_picked}
 use Rattle.codes.proofs.slot_size.Goals as goal
 use Rattle.codes.proofs.slot_size.Goals.{After-is_some}
 

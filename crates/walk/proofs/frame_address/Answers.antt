@@ -2,10 +2,11 @@
 use mathlib.Core.Path.{sym, ◌∙◌}
 use Rattle.std.proofs.lemmas.Result.{err_from_is_err_and}
 use Rattle.rows.proofs.Signs.{passed}
-use Rattle.walk.proofs.Leaving.{given, lacking, address_unset, address_absent, address_at}
+use Rattle.walk.proofs.Leaving.{address_unset, address_absent, address_at}
 use Rattle.walk.proofs.Leaves.{summed}
 use borrow.Author.Rules.{rules}
 use Rattle.walk.proofs.frame_address.Goals as goal
+use Rattle.format.proofs.Asked.{given, lacking}
 
 pub returns-in_default : goal.returns-in_default
 returns-in_default c = address_unset _ c.in_default.is

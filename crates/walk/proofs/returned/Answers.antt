@@ -1,8 +1,9 @@
 -- `walk::returned` meets its contract.
 use mathlib.Core.Path.{sym, ◌∙◌}
 use Rattle.std.proofs.lemmas.Result.{err_from_is_err_and}
-use Rattle.walk.proofs.Leaving.{given, lacking, returned_none, returned_is}
+use Rattle.walk.proofs.Leaving.{returned_none, returned_is}
 use Rattle.walk.proofs.returned.Goals as goal
+use Rattle.format.proofs.Asked.{given, lacking}
 
 pub returns-in_err-a : goal.returns-in_err-a
 returns-in_err-a c =

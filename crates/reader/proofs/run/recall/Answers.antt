@@ -2,8 +2,9 @@
 use mathlib.Core.Path.{sym, ◌∙◌}
 use Rattle.std.proofs.lemmas.Bool.{false≢true}
 use Rattle.std.proofs.lemmas.Result.{err_from_is_err_and}
-use Rattle.reader.proofs.Acting.{given, lacking, empty, recalled}
+use Rattle.reader.proofs.Acting.{empty, recalled}
 use Rattle.reader.proofs.run.recall.Goals as goal
+use Rattle.format.proofs.Asked.{given, lacking}
 
 pub returns-in_err-rules : goal.returns-in_err-rules
 returns-in_err-rules c =

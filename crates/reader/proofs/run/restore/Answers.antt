@@ -2,8 +2,8 @@
 use mathlib.Core.Path.{sym, ap, ◌∙◌}
 use Rattle.std.proofs.lemmas.Result.{err_from_is_err_and}
 use Rattle.format.specs.Prelude.{good}
+use Rattle.format.proofs.Asked.{given, lacking}
 use Rattle.reader.specs.OneRegister.{restored}
-use Rattle.reader.proofs.Acting.{given, lacking}
 use Rattle.reader.proofs.run.restore.Goals as goal
 
 pub returns-in_err-rule : goal.returns-in_err-rule

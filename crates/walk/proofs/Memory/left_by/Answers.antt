@@ -3,9 +3,10 @@ use mathlib.Core.Logic.{inl, inr}
 use mathlib.Core.Path.{sym, ap, ◌∙◌}
 use Rattle.std.proofs.lemmas.Result.{err_from_is_err_and}
 use Rattle.format.specs.Prelude.{good}
+use Rattle.format.proofs.Asked.{given, lacking}
 use Rattle.walk.specs.Walk.{left_by}
 use Rattle.rows.proofs.Signs.{passed}
-use Rattle.walk.proofs.Leaving.{given, lacking, saved_none, saved_is}
+use Rattle.walk.proofs.Leaving.{saved_none, saved_is}
 use Rattle.walk.proofs.Memory.left_by.Goals as goal
 
 pub returns-in-Unstated : goal.returns-in-Unstated

@@ -2,9 +2,9 @@
 use mathlib.Core.Path.{◌∙◌}
 use native.Mathlib.Omega.{arith}
 use Rattle.format.specs.X64Reader.{fields_of}
+use Rattle.format.proofs.Bits.{flag_number}
 use mir.Facts.{to_z-of_z}
 use mir.Syntax.{w64}
-use Rattle.x64_reader.proofs.Entry.{marked}
 use Rattle.x64_reader.proofs.Code.numbers.Goals as goal
 
 pub returns-in-Push : goal.returns-in-Push
@@ -22,4 +22,4 @@ returns-in-Frame c = rw (c.in-Frame.is, c.cast_unsigned-in-Frame.ensures, to_z-o
 pub returns-in-Save : goal.returns-in-Save
 unfolding fields_of
 returns-in-Save c =
-    rw (c.in-Save.is, c.from.ensures ∙ marked c.in-Save.vector, c.cast_unsigned-in-Save.ensures, to_z-of_z {w = w64} {z = c.in-Save.z} (record { sfits = omega arith }))
+    rw (c.in-Save.is, c.from.ensures ∙ flag_number c.in-Save.vector, c.cast_unsigned-in-Save.ensures, to_z-of_z {w = w64} {z = c.in-Save.z} (record { sfits = omega arith }))

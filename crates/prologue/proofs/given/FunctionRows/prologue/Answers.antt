@@ -1,8 +1,8 @@
 -- `given::FunctionRows::prologue` meets its contract.
 use native.Mathlib.Omega.{arith}
 use Rattle.std.proofs.lemmas.Result.{err_from_is_err_and}
+use Rattle.std.proofs.lemmas.Bool.{not-true, not-false}
 use Rattle.rows.proofs.Signs.{passed}
-use Rattle.prologue.proofs.Counting.{not_true, not_false}
 use Rattle.prologue.proofs.Told.{ok_of, err_of}
 use Rattle.prologue.proofs.Answers.{shaped, unnamed, stopped}
 use Rattle.prologue.proofs.given.FunctionRows.prologue.Goals as goal
@@ -14,7 +14,7 @@ returns-in_err-w c =
 
 pub returns-then-not-w : goal.returns-then-not-w
 returns-then-not-w c =
-    unnamed c.args.m.now.machine.now _ _ c.leading-leading.ensures (ok_of _ c.in_ok-w.was c.read_rows.ensures.0) (not_true _ c.if-not-w.true)
+    unnamed c.args.m.now.machine.now _ _ c.leading-leading.ensures (ok_of _ c.in_ok-w.was c.read_rows.ensures.0) (not-true _ c.if-not-w.true)
 
 pub invariant_of-result : goal.invariant_of-result
 invariant_of-result c =
@@ -25,4 +25,4 @@ pub returns : goal.returns
 returns c =
     let h = rw c.in_ok-w.was at c.read_rows.ensures in
     rw (passed c.in_ok-w.w.below (omega (arith, h.1)))
-    (shaped c.args.m.now.machine.now _ _ c.leading-leading.ensures (ok_of _ c.in_ok-w.was c.read_rows.ensures.0) h.1 (not_false _ c.if-not-w.false))
+    (shaped c.args.m.now.machine.now _ _ c.leading-leading.ensures (ok_of _ c.in_ok-w.was c.read_rows.ensures.0) h.1 (not-false _ c.if-not-w.false))

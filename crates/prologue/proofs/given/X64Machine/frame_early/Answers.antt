@@ -5,8 +5,9 @@ use lib.IntN.{pos}
 use Prim.Native.Nat.{◌*◌}
 use borrow.Author.Tests.{eq-eqb, ne_eqb}
 use Rattle.std.specs.Prelude.{Ok}
+use Rattle.std.proofs.lemmas.Bool.{not-true, not-false}
 use Rattle.rows.proofs.Signs.{same_bits}
-use Rattle.prologue.proofs.Counting.{same_pushed, not_true, not_false}
+use Rattle.prologue.proofs.Counting.{same_pushed}
 use Rattle.prologue.proofs.Frames.{early_other, early_more, early_far, early_steps, early_yes}
 use Rattle.prologue.proofs.given.X64Machine.frame_early.Goals as goal
 
@@ -23,10 +24,10 @@ returns-then-w-self c =
 
 pub returns-then-ne : goal.returns-then-ne
 returns-then-ne c =
-    rw (← early_steps c.args.self.now.machine.now c.args.reg c.args.w c.args.last (sym (same_pushed c.args.w.steps) ∙ not_true _ (sym c.if-ne.ensures)))
+    rw (← early_steps c.args.self.now.machine.now c.args.reg c.args.w c.args.last (sym (same_pushed c.args.w.steps) ∙ not-true _ (sym c.if-ne.ensures)))
 
 pub returns : goal.returns
 returns c =
     let e = sym (same_bits c.args.w.below (pos (2 * c.args.self.now.machine.now.word)) (omega (arith, c.struct_told-1.given)) (omega arith)) ∙ eq-eqb _ _ c.if-w-self.false in
-    let s = sym (same_pushed c.args.w.steps) ∙ not_false _ (sym c.if-ne.ensures) in
+    let s = sym (same_pushed c.args.w.steps) ∙ not-false _ (sym c.if-ne.ensures) in
     rw (← early_yes c.args.self.now.machine.now c.args.reg c.args.w c.args.last c.if-reg-self.false c.if-not-last.false e s) (ap Ok c.framed.ensures)

@@ -8,9 +8,9 @@ use mir.Syntax.{w64}
 use Rattle.std.specs.Prelude.{Ok, Some}
 use Rattle.std.specs.Option.{option_eq}
 use Rattle.std.specs.Ordering.{int_eq}
+use Rattle.std.proofs.lemmas.Bool.{not-true, not-false}
 use Rattle.format.specs.Rows.{same_offset}
 use Rattle.rows.proofs.Signs.{passed}
-use Rattle.prologue.proofs.Counting.{not_true, not_false}
 use Rattle.prologue.proofs.Distances.{checked_same, same_flip}
 use Rattle.prologue.proofs.Frames.{push_far, push_elsewhere, push_yes}
 use Rattle.prologue.proofs.given.X64Machine.pushed.Goals as goal
@@ -27,16 +27,16 @@ stores c = checked_same c.checked_neg.result _ _ (rw (passed c.args.z c.ranges.z
 pub returns-then-ne : goal.returns-then-ne
 returns-then-ne c =
     let w : to_z w64 c.args.self.now.machine.now.word ≡ pos c.args.self.now.machine.now.word = to_z_pos w64 (omega (arith, c.args.self.now.word)) in
-    rw (← push_far c.args.self.now.machine.now c.args.reg c.args.z c.args.y c.args.w (sym (moves (goal.at.returns-then-ne c).After-checked_sub) ∙ not_true _ (sym (rw w at c.if-ne.ensures))))
+    rw (← push_far c.args.self.now.machine.now c.args.reg c.args.z c.args.y c.args.w (sym (moves (goal.at.returns-then-ne c).After-checked_sub) ∙ not-true _ (sym (rw w at c.if-ne.ensures))))
 
 pub returns-then-ne-2 : goal.returns-then-ne-2
 returns-then-ne-2 c =
-    rw (← push_elsewhere c.args.self.now.machine.now c.args.reg c.args.z c.args.y c.args.w (sym (stores (goal.at.returns-then-ne-2 c).After-checked_neg) ∙ not_true _ (sym (rw (passed c.args.y c.ranges.y.sfits) at c.if-ne-2.ensures))))
+    rw (← push_elsewhere c.args.self.now.machine.now c.args.reg c.args.z c.args.y c.args.w (sym (stores (goal.at.returns-then-ne-2 c).After-checked_neg) ∙ not-true _ (sym (rw (passed c.args.y c.ranges.y.sfits) at c.if-ne-2.ensures))))
 
 pub returns : goal.returns
 returns c =
     let w : to_z w64 c.args.self.now.machine.now.word ≡ pos c.args.self.now.machine.now.word = to_z_pos w64 (omega (arith, c.args.self.now.word)) in
-    let e = sym (moves (goal.at.returns c).After-checked_sub) ∙ not_false _ (sym (rw w at c.if-ne.ensures)) in
-    let f = sym (stores (goal.at.returns c).After-checked_neg) ∙ not_false _ (sym (rw (passed c.args.y c.ranges.y.sfits) at c.if-ne-2.ensures)) in
+    let e = sym (moves (goal.at.returns c).After-checked_sub) ∙ not-false _ (sym (rw w at c.if-ne.ensures)) in
+    let f = sym (stores (goal.at.returns c).After-checked_neg) ∙ not-false _ (sym (rw (passed c.args.y c.ranges.y.sfits) at c.if-ne-2.ensures)) in
     let s = rw (c.knows-known.ensures, c.registers.ensures, passed c.args.z c.ranges.z.sfits) at c.stepped.ensures in
     rw (← push_yes c.args.self.now.machine.now c.args.reg c.args.z c.args.y c.args.w e f) (ap Ok s)

@@ -2,10 +2,11 @@
 use mathlib.Core.Path.{refl}
 use Prim.Native.Nat.{◌+◌, ◌≤◌}
 use native.Mathlib.Omega.{arith}
+use native.Mathlib.Nat.{add-sub_cancel_left}
 use borrow.Author.Rules.{rules}
 use Rattle.format.specs.Lists.{count, code_stride, most_records}
 use Rattle.x64.specs.Listed.{records_in}
-use Rattle.x64.proofs.Parts.{behind, part_count}
+use Rattle.x64.proofs.Parts.{part_count}
 use Rattle.x64.proofs.Spans.{direct_bounds, direct_askable, direct_found}
 use Rattle.x64.proofs.given.Input.direct_span.Goals as goal
 use Rattle.x64.proofs.given.Input.direct_span.Goals.{After-prologue_at-p}
@@ -37,10 +38,10 @@ unfolding records_in
 invariant_of-result c =
     let h = inside (goal.at.invariant_of-result c).After-prologue_at-p in
     let p = c.prologue_at-p.result in
-    record { few = rw behind (omega (arith, part_count c.args.self.now.list.now p.codes_at p.codes h.0, h.1)) }
+    record { few = rw add-sub_cancel_left (omega (arith, part_count c.args.self.now.list.now p.codes_at p.codes h.0, h.1)) }
 
 pub returns : goal.returns
 returns c =
     let e = c.prologue_at-p.ensures in
     let h = direct_bounds (direct_askable c.requires.1 (c.args.self.now.listed.each_one _ c.requires.0)) in
-    direct_found _ _ refl (rw e) (rw e) (rw e) h.1 (rw (behind, e))
+    direct_found _ _ refl (rw e) (rw e) (rw e) h.1 (rw (add-sub_cancel_left, e))

@@ -2,6 +2,7 @@
 use mathlib.Core.Path.{refl}
 use Prim.Native.Nat.{◌≤◌}
 use native.Mathlib.Omega.{arith}
+use native.Mathlib.Nat.{add-sub_cancel_left}
 use borrow.Author.Rules.{rules}
 use Rattle.std.proofs.lemmas.Result.{err_from_is_err_and}
 use Rattle.format.specs.Lists.{most_records}
@@ -9,7 +10,6 @@ use Rattle.header_keys.specs.Functions.{RowsReady}
 use Rattle.lists.specs.Extents.{extent_at}
 use Rattle.prologue.proofs.Rows.{function_part}
 use Rattle.x64.specs.Listed.{records_in}
-use Rattle.x64.proofs.Parts.{behind}
 use Rattle.x64.proofs.Spans.{rows_bounds, rows_askable, rows_refused, rows_found, rows_few}
 use Rattle.x64.proofs.given.Input.rows_span.Goals as goal
 use Rattle.x64.proofs.given.Input.rows_span.Goals.{After-extent_at-e}
@@ -38,20 +38,20 @@ pub slice_bounds-all-end : goal.slice_bounds-all-end
 slice_bounds-all-end c = let h = (inside (goal.at.slice_bounds-all-end c).After-extent_at-e).0.inside in search rules
 
 pub invariant_of-all : goal.invariant_of-all
-invariant_of-all c = record { ready = rw behind (function_part (inside (goal.at.invariant_of-all c).After-extent_at-e).0) }
+invariant_of-all c = record { ready = rw add-sub_cancel_left (function_part (inside (goal.at.invariant_of-all c).After-extent_at-e).0) }
 
 pub returns-in_err-shape : goal.returns-in_err-shape
 unfolding extent_at
 returns-in_err-shape c =
     let p = err_from_is_err_and c.from_residual.result c.from_residual.ensures.1 in
     let b = rows_bounds (rows_askable c.requires.1 (c.args.self.now.listed.each_one _ c.requires.0)) in
-    rw (p.1, p.2) (rows_refused _ _ _ _ b.1.inside _ (rw (behind, c.extent_at-e.ensures, c.in_err-shape.was) at c.prologue.ensures))
+    rw (p.1, p.2) (rows_refused _ _ _ _ b.1.inside _ (rw (add-sub_cancel_left, c.extent_at-e.ensures, c.in_err-shape.was) at c.prologue.ensures))
 
 pub invariant_of-result : goal.invariant_of-result
 unfolding extent_at records_in
 invariant_of-result c =
     let b = rows_bounds (rows_askable c.requires.1 (c.args.self.now.listed.each_one _ c.requires.0)) in
-    let h = rw (behind, c.extent_at-e.ensures, c.in_ok-shape.was) at c.prologue.ensures in
+    let h = rw (add-sub_cancel_left, c.extent_at-e.ensures, c.in_ok-shape.was) at c.prologue.ensures in
     record { few = omega (arith, rows_few c.args.machine c.args.self.now.functions.now c.args.self.now.list.now c.args.k b.1.inside c.in_ok-shape.shape h, b.2) }
 
 pub returns : goal.returns
@@ -59,5 +59,5 @@ unfolding extent_at
 returns c =
     let e = c.extent_at-e.ensures in
     let b = rows_bounds (rows_askable c.requires.1 (c.args.self.now.listed.each_one _ c.requires.0)) in
-    let h = rw (behind, e, c.in_ok-shape.was) at c.prologue.ensures in
+    let h = rw (add-sub_cancel_left, e, c.in_ok-shape.was) at c.prologue.ensures in
     rows_found _ _ _ _ b.1.inside _ h _ refl (rw e) (rw e) c.prologue_end.ensures
