@@ -2,6 +2,7 @@
 use mathlib.Core.Path.{◌≡◌, ap, ◌∙◌}
 use Prim.Native.Nat.{ℕ, suc, ◌+◌, ◌-◌, ◌*◌, ◌/◌, ◌%◌, ◌^◌, ◌≤◌, ◌<◌}
 use native.Mathlib.Omega.{arith}
+use native.Mathlib.Nat.{div-add-mod', mul_comm}
 use mathlib.Core.Bool.{Bool, true, false, ◌&&◌}
 use mathlib.Core.Option.{some}
 use mathlib.Core.List.{List, ◌∷◌, ◌++◌}
@@ -62,32 +63,32 @@ module _ (frame at : ℕ) (rest : List ℕ) where
       (λ k.
       rw (if-gt n 128, if-gt (suc (n / 8)) 65536, node_back frame at 1 1 (little 4 n ++ rest) (omega arith), little_back 4 n rest (omega (arith, h.2)))))
 
-  -- a save, near in units of its size or far in bytes
+  -- a save, near in units of its size or far in bytes, by what is read of both
+  slot_back : (vector : Bool) (near unit reg n : ℕ)
+      → ((m : ℕ) → m < 65536 → read_code frame ((node at near reg ++ little 2 m) ++ rest) ≡ some ((at, Save reg vector (pos (unit * m))), rest))
+      → read_code frame ((node at (suc near) reg ++ little 4 n) ++ rest) ≡ some ((at, Save reg vector (pos n)), rest)
+      → read_code frame (slot_bytes near unit at reg n ++ rest) ≡ some ((at, Save reg vector (pos n)), rest)
+  unfolding slot_bytes
+  slot_back vector near unit reg n f g =
+      tested (eqb (n % unit) 0 && ltb (n / unit) 65536)
+      (λ t.
+      let w = and_yes (eqb (n % unit) 0) (ltb (n / unit) 65536) t in
+      let e : unit * (n / unit) ≡ n = omega (arith, div-add-mod' n unit, mul_comm unit (n / unit), eqb→eq (n % unit) 0 w.0) in
+      rw (pick_yes (eqb (n % unit) 0 && ltb (n / unit) 65536) (node at near reg ++ little 2 (n / unit)) (node at (suc near) reg ++ little 4 n) t)
+      (f (n / unit) (ltb→lt (n / unit) 65536 w.1) ∙ ap (λ k. some ((at, Save reg vector (pos k)), rest)) e))
+      (λ t. rw (pick_no (eqb (n % unit) 0 && ltb (n / unit) 65536) (node at near reg ++ little 2 (n / unit)) (node at (suc near) reg ++ little 4 n) t) g)
+
   save_back : (vector : Bool) (reg n : ℕ) → n < 2 ^ 32
       → read_code frame (save_bytes vector at reg n ++ rest) ≡ some ((at, Save reg vector (pos n)), rest)
-  unfolding save_bytes slot_bytes node read_operand operand_bytes meaning after next pick read_little
+  unfolding save_bytes node read_operand operand_bytes meaning after next pick read_little
   save_back false reg n h =
-      tested (eqb (n % 8) 0 && ltb (n / 8) 65536)
-      (λ t.
-      let w = and_yes (eqb (n % 8) 0) (ltb (n / 8) 65536) t in
-      let e : 8 * (n / 8) ≡ n = omega (arith, eqb→eq (n % 8) 0 w.0) in
-      rw (pick_yes (eqb (n % 8) 0 && ltb (n / 8) 65536) (node at 4 reg ++ little 2 (n / 8)) (node at 5 reg ++ little 4 n) t)
-      (rw (node_back frame at 4 reg (little 2 (n / 8) ++ rest) (omega arith), little_back 2 (n / 8) rest (omega (arith, ltb→lt (n / 8) 65536 w.1)))
-      (ap (λ k. some ((at, Save reg false (pos k)), rest)) e)))
-      (λ t.
-      rw (pick_no (eqb (n % 8) 0 && ltb (n / 8) 65536) (node at 4 reg ++ little 2 (n / 8)) (node at 5 reg ++ little 4 n) t)
-      (rw (node_back frame at 5 reg (little 4 n ++ rest) (omega arith), little_back 4 n rest (omega arith))))
+      slot_back false 4 8 reg n
+      (λ m l. rw (node_back frame at 4 reg (little 2 m ++ rest) (omega arith), little_back 2 m rest (omega (arith, l))))
+      (rw (node_back frame at 5 reg (little 4 n ++ rest) (omega arith), little_back 4 n rest (omega (arith, h))))
   save_back true reg n h =
-      tested (eqb (n % 16) 0 && ltb (n / 16) 65536)
-      (λ t.
-      let w = and_yes (eqb (n % 16) 0) (ltb (n / 16) 65536) t in
-      let e : 16 * (n / 16) ≡ n = omega (arith, eqb→eq (n % 16) 0 w.0) in
-      rw (pick_yes (eqb (n % 16) 0 && ltb (n / 16) 65536) (node at 8 reg ++ little 2 (n / 16)) (node at 9 reg ++ little 4 n) t)
-      (rw (node_back frame at 8 reg (little 2 (n / 16) ++ rest) (omega arith), little_back 2 (n / 16) rest (omega (arith, ltb→lt (n / 16) 65536 w.1)))
-      (ap (λ k. some ((at, Save reg true (pos k)), rest)) e)))
-      (λ t.
-      rw (pick_no (eqb (n % 16) 0 && ltb (n / 16) 65536) (node at 8 reg ++ little 2 (n / 16)) (node at 9 reg ++ little 4 n) t)
-      (rw (node_back frame at 9 reg (little 4 n ++ rest) (omega arith), little_back 4 n rest (omega arith))))
+      slot_back true 8 16 reg n
+      (λ m l. rw (node_back frame at 8 reg (little 2 m ++ rest) (omega arith), little_back 2 m rest (omega (arith, l))))
+      (rw (node_back frame at 9 reg (little 4 n ++ rest) (omega arith), little_back 4 n rest (omega (arith, h))))
 
   alloc_of : (z : ℤ) → AllocFits z → read_code frame (alloc_bytes at (size64 z) ++ rest) ≡ some ((at, Alloc z), rest)
   unfolding size64
