@@ -26,7 +26,7 @@ $(command): $(archive) $(wildcard cli/src/* cli/Cargo.toml bindings/rust/src/* b
 	@touch $@
 
 check: $(command)
-	python3 differential/command.py
+	python3 differential/checks/command.py
 
 target/dekvoz.pc: Makefile
 	@mkdir -p target

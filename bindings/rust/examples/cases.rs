@@ -1,5 +1,5 @@
-//! Hands cases and sections in text form to the wrappers and prints their answers, as differential/ours.c and differential/reads.c
-//! print the library's; differential/README.md has the form.
+//! Hands cases and sections in text form to the wrappers and prints their answers, as differential/drivers/writers.c and
+//! reader.c print the library's; differential/README.md has the form.
 //!
 //! Each case goes through `lists` with lent buffers. Where this crate's types can say it, it goes through them too, and both
 //! answers must be the same; so must the row check of each function. A line on standard error and status 1 say what went wrong.
