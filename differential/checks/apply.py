@@ -1,5 +1,5 @@
 #!/usr/bin/env python3
-"""The library's unwind_apply against a program written from the RISC-V psABI ("Relocations") and request W-211 alone.
+"""The library's unwind_apply against judges/apply.py, which was written from the RISC-V psABI ("Relocations") alone.
 
     apply.py COUNT SEED     chosen lists, and COUNT random ones
 

@@ -1,5 +1,5 @@
 #!/usr/bin/env python3
-"""Mach-O sections of earlier releases read as they did before the writer gave up that format (W-210).
+"""Mach-O sections of earlier releases read as they did before the writer gave up that format.
 
     archived.py          reads every record at every offset below its length, for each of forty registers, through the archive's
                          unwind_read (drivers/reader.c), and compares with expected/macho.read.txt
@@ -81,7 +81,7 @@ def read(name, section, relocations):
 
 
 def main():
-    head = ["# What unwind_read answered of the sections in macho.txt before W-210; differential/checks/archived.py compares."]
+    head = ["# What unwind_read answered of the sections in macho.txt before the writer gave up the format; differential/checks/archived.py compares."]
     lines = head + [line for found in sections() for line in read(*found)]
     if sys.argv[1:] == ["store"]:
         with open(ANSWERS, "w") as file:

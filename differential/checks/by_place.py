@@ -1,5 +1,5 @@
 #!/usr/bin/env python3
-"""The reader's exports by place against a reader of its own: fields by judges/reader.py, written from document 01 alone, and addresses from the LSB.
+"""The reader's exports by place against judges/by_place.py, which was written from DWARF 5 and the LSB alone.
 
     by_place.py COUNT SEED     the stored sections, those of gas, COUNT made ones, damaged copies and short sections
 

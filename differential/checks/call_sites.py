@@ -1,5 +1,5 @@
 #!/usr/bin/env python3
-"""The reader of call sites against one that was written from the Itanium C++ ABI's "LSDA" (the exception handling tables) and the request.
+"""The reader of call sites against one that was written from the Itanium C++ ABI's "LSDA" (the exception handling tables).
 
     call_sites.py COUNT SEED     every short table, tables of small alphabets, COUNT lists of landings through eh_frame's writer, some of
                                  them damaged in every byte, tables with each number padded, COUNT random tables, and the tables of C++

@@ -1,10 +1,10 @@
 #!/usr/bin/env python3
-"""The check of a foreign eh_frame section against judges/reader.py, which was written from document 01 alone.
+"""The check of a foreign eh_frame section against judges/reader.py, which was written from DWARF 5 and the LSB alone.
 
     check_section.py COUNT SEED [BYTES]     every short section over a few bytes, the library's sections of COUNT random lists, damaged
                                             copies of small ones, and up to BYTES (300,000) of eh_frame of the programs on this machine
 
-The judge does as the request says: it reads every record at every offset below its length, for several registers. Only where a length is
+The judge reads every record at every offset below its length, for several registers. Only where a length is
 above 64 it reads at the first, the last and a few between. Of a section that has failing records each is named in turn: the length of the
 one that was named is set to 0, and the section is checked again. At the end stands how often each number was answered, and for the
 programs how many records pass and which operations the failing ones use that our tables never do."""

@@ -263,7 +263,7 @@ def proportion():
 
 
 def recorded(stack, registers):
-    """A record file (request W-202)."""
+    """A record file."""
     trailer = (8 * len(registers)).to_bytes(8, "little") + len(registers).to_bytes(4, "little") + len(stack).to_bytes(4, "little")
     return stack + b"".join(n.to_bytes(8, "little") for n in registers) + trailer
 

@@ -2,7 +2,7 @@
 """The fixed list of the Rust's answers that the program crates/cases replays: `fixed.py` compares the stored file, `fixed.py store` writes it.
 
 The lists are those of cases/ and 2,500 of makers/wild_cases.py, as far as the Rust can be handed them. The answer is the Rust's; where the library
-refuses what the Rust does not, it is document 01's number (judges/questions.py; docs/DIFFERENCES.md lists these). A block is its length in 4 bytes
+refuses what the Rust does not, it is the specification's number (judges/questions.py; docs/DIFFERENCES.md lists these). A block is its length in 4 bytes
 and then unsigned LEB numbers: the entry (0 relaxed_table, 1 relaxed_debug_frame, 2 seh), the format, the six lists, each behind its
 count, the number and the position of the answer, and the four results, each behind its count of elements. A count of 0 ends the file."""
 

@@ -8,7 +8,7 @@
  *
  * Each slice lies against a page that cannot be touched, by turns with its end and with its start; on its other side stand bytes
  * that no call may change. After each call: these bytes and every input are as before; a refusal left the lent buffers as they
- * were and has no counts, an accepted call left what lies past its results; the number is one that document 01 has for the
+ * were and has no counts, an accepted call left what lies past its results; the number is one that the specification has for the
  * entry. An accepted list is written again into buffers of about its size, where 51 to 54 or the same results are owed, and what
  * was written is read back: where the row check says yes the reader answers.
  *
@@ -41,7 +41,7 @@ static const char *const ENTRY[ENTRIES] = {"relaxed_table ELF", "relaxed_table C
     "relaxed_table other", "relaxed_debug_frame", "seh", "row_check", "read", "relaxed_table_of ELF", "relaxed_table_of COFF",
     "relaxed_table_of Mach-O", "relaxed_table_of other", "relaxed_debug_frame_of", "pack_functions", "pack_rows", "row_check_of",
     "arm64", "read_arm64"};
-/* The numbers that document 01 and the change requests have for each entry, beside 0. 37, 39 and 41 are met through direct codes alone; to structs every
+/* The numbers that the specification has for each entry, beside 0. 37, 39 and 41 are met through direct codes alone; to structs every
  * writer with a table answers 54 where the list lent for the numbers is not ready. */
 static const uint8_t NUMBERS[ENTRIES][24] = {
     {11, 13, 21, 22, 23, 24, 25, 51, 52, 53, 54},
@@ -808,7 +808,7 @@ static section *pool_kept(void) {
     return s;
 }
 
-/* What was written is read: demand 3, and 62 and 65 where there is nothing to read. */
+/* What was written is read: the read-back theorem, and 62 and 65 where there is nothing to read. */
 static void read_back(const section *s) {
     uint64_t k = below(s->functions + chance(10)), p = below(3) ? below(64) : PICK(LENGTHS);
     const uint64_t *f = lists[FUNCTIONS].at + 18 * k;

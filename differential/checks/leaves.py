@@ -1,6 +1,6 @@
 #!/usr/bin/env python3
 """What the program crates/leaves must print, made without Rattle: LEB numbers by GNU as (.uleb128, .sleb128), rows and steps by the Rust
-(target/differential/release/harness), rows that it does not have by GNU as (.cfi_same_value, .cfi_register), and what is read back from the inputs themselves, by the rules of document 01.
+(target/differential/release/harness), rows that it does not have by GNU as (.cfi_same_value, .cfi_register), and what is read back from the inputs themselves, by the specification.
 
 `leaves.py store` writes crates/leaves/stdout; without a word the stored file is compared."""
 

@@ -1,5 +1,5 @@
 #!/usr/bin/env python3
-"""The exports that take a section apart against a program that was written from DWARF 5 (6.4, 7.24), the LSB's ".eh_frame" and document 01.
+"""The exports that take a section apart against a program that was written from DWARF 5 (6.4, 7.24), and the LSB's ".eh_frame".
 
     parts.py COUNT SEED     every short section over a small alphabet, every operation of one and two bytes, headers and records with each
                             byte of theirs damaged, COUNT sections of the library's writers, whole, cut and damaged

@@ -1,9 +1,9 @@
 #!/usr/bin/env python3
-"""The library's reader against the one of judges/reader.py, which was written from document 01 and DWARF 5 alone.
+"""The library's reader against the one of judges/reader.py, which was written from DWARF 5 and the LSB alone.
 
     reader.py COUNT SEED     sections of the stored cases and of COUNT random lists, damaged copies of small ones, and the sections of gas
 
-Sections are those that the Rust writes (the library's are equal, checks/writers.py); of lists with rows of W-207, which it cannot be handed,
+Sections are those that the Rust writes (the library's are equal, checks/writers.py); of lists with SameValue or InRegister, which it lacks,
 they are the library's, and what is read must be what the rows say (`meant`). Damage: every byte of a small section changed in each bit
 and turned whole, every truncation, lengths changed, LEB numbers lengthened, relocations moved. At the end stands how often each number
 was answered; 0 is an answer."""
@@ -40,7 +40,7 @@ def sections(texts):
 
 
 def with_registers(texts):
-    """The same of lists with rows of W-207, as the library writes them; then the case."""
+    """The same of lists with SameValue or InRegister, as the library writes them; then the case."""
     for text in texts:
         said = by_case(run(os.path.join(OUT, "writers"), text))
         for case in parse(text.split("\n")):
@@ -195,7 +195,7 @@ def main():
             asked += [(*other, list(questions(kind, word, functions, rng, True))) for other in damaged(section, numbers, rng)]
         compare(asked, counts)
         total += len(asked)
-    print(f"reader: {by_rows['by rows']} readings of lists with rows of W-207 are what their rows say")
+    print(f"reader: {by_rows['by rows']} readings of lists with SameValue or InRegister are what their rows say")
     print(f"reader: {total} sections, {small} of them damaged in every way; " + ", ".join(f"{n}: {counts[n]}" for n in sorted(counts)))
 
 

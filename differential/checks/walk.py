@@ -1,5 +1,5 @@
 #!/usr/bin/env python3
-"""The library's unwind_walk against judges/walk.py, a walk by document 02.
+"""The library's unwind_walk against judges/walk.py, a walk by the specification, "Walk".
 
     walk.py COUNT SEED     chosen faults, short inputs over few values, COUNT made chains and damaged copies of each, and the stops of
                            COUNT / 20 simulated machines

@@ -1,11 +1,11 @@
 #!/usr/bin/env python3
-"""The library's exports against the Rust and against document 01's questions.
+"""The library's exports against the Rust and against the specification's questions.
 
     writers.py stored            the cases of cases/
     writers.py short             every short list (makers/short_cases.py)
     writers.py wild COUNT SEED   random lists, a third with numbers changed (makers/wild_cases.py)
     writers.py x64 COUNT SEED    the same, only COFF and direct codes; both builds of the Rust are asked
-    writers.py registers COUNT SEED   the same with rows of W-207, which the Rust cannot be handed: the oracle alone decides, and gas where
+    writers.py registers COUNT SEED   the same with rows of SameValue and InRegister, which the Rust lacks: the oracle alone decides, and gas where
                                  gas/ has the case's bytes; in COFF the Rust is handed an Undefined row, as unreadable there
 
 drivers/writers.c hands each case to the library: its answer is compared with the oracle's (judges/questions.py) where that refuses, and with the Rust's
@@ -84,7 +84,7 @@ def without_labels(case):
 
 
 def without_registers(case):
-    """In COFF a row of W-207 is an unreadable group, as Undefined is: the Rust is handed that."""
+    """In COFF a row of SameValue or InRegister is an unreadable group, as Undefined is: the Rust is handed that."""
     rows = list(case["rows"])
     if case["entry"] == "relaxed_table" and case["format"] == 1:
         for i, row in enumerate(records(rows, 4)):

@@ -244,7 +244,7 @@ static void ask(const a_case *c) {
     check_short(c, count);
 }
 
-/* The ready x86-64 machine of document 01. */
+/* The ready x86-64 machine. */
 static void x86_64(list *l) {
     static const uint64_t front[] = {8, 8, 7, 16, 6, 0, 0, 2, 1, 3, 6, 7, 5, 4};
     l->count = 0;

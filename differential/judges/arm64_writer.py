@@ -1,4 +1,4 @@
-"""An independent writer of Windows' unwind data on ARM64, from Microsoft's page, the source's `describe` and the request's questions, and not from the
+"""An independent writer of Windows' unwind data on ARM64, from Microsoft's page, the source's `describe` and questions 81 to 83, and not from the
 definitions: the judge of unwind_arm64. A function is (symbol, length, prologue, epilogues), an epilogue (start, codes), a code (kind, register, offset)."""
 from judges.arm64_reader import K, KINDS, PATTERNS, No, packed  # noqa: E402
 

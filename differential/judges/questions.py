@@ -1,4 +1,4 @@
-"""Document 01's questions and those of the change requests, asked of the number lists of a case; written from the documents, apart from
+"""The questions of docs/SPECIFICATION.md, asked of the number lists of a case; written from that page, apart from
 the definitions and the code.
 
 `expected(case)` is ("empty",), ("refused", number, position), ("accepted",), or ("source",) where only the source's own branches
@@ -49,7 +49,7 @@ def row_ok(row):
 
 
 def register_rows(case):
-    """Whether rows of W-207 are in the list, which the Rust cannot be handed."""
+    """Whether rows of SameValue or InRegister are in the list, which the Rust cannot be handed."""
     return any(row[1] in (SAME_VALUE, IN_REGISTER) for row in records(case["rows"], 4))
 
 
@@ -85,7 +85,7 @@ def row_whole(word, row):
 
 
 def mach_o(case):
-    """A format that is not written any more (W-210); the Rust is not asked about it."""
+    """A format that is not written any more; the Rust is not asked about it."""
     return case["entry"] == "relaxed_table" and case["format"] == 2
 
 

@@ -1,4 +1,5 @@
-"""A reader of eh_frame and debug_frame sections, written from document 01 and DWARF 5 alone: the judge of the library's reader.
+"""A reader of eh_frame and debug_frame sections, written from DWARF 5, the LSB and the specification, "Reader": the judge of
+the library's reader.
 
 `read(section, relocations, kind, word, k, register, p)` is the list of eight numbers that unwind_read answers: the question's number
 (0: answered), frame (0 none, 1 register plus offset), its register and offset, the rule (0 unstated, 1 undefined, 2 saved,

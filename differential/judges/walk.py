@@ -1,4 +1,5 @@
-"""The walk over a recorded fault by document 02 (W-202), apart from the library's code and over the reader of judges/reader.py: the judge of unwind_walk.
+"""The walk over a recorded fault by the specification, "Walk", apart from the library's code and
+over judges/reader.py: the judge of unwind_walk.
 
 `Case` is what unwind_walk is handed. `walk(case)` is (number, frames, ending); a frame is (position, pc or return address).
 `fill`, where it is given, is told every stack word that is loaded before it is: it makes stacks."""

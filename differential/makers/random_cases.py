@@ -200,7 +200,7 @@ def x64_case(seed, number):
 
 
 def registers_case(seed, number):
-    """A case with rows of W-207, most of them as ELF."""
+    """A case with SameValue and InRegister, most of them as ELF."""
     rng = random.Random(f"registers {seed} {number}")
     entry = rng.choice(["relaxed_table", "relaxed_debug_frame"])
     made = Maker(rng, entry, 1 if entry == "relaxed_table" and rng.random() < 0.1 else 0)

@@ -146,7 +146,7 @@ fn number(text: &str, bits: u32) -> Result<u64, String> {
     u64::try_from(value).map_err(|_| format!("{text} is above 64 bits"))
 }
 
-/// The ready x86-64 machine of document 01.
+/// The ready x86-64 machine.
 fn x86_64() -> Vec<u64> {
     let mut out = vec![8, 8, 7, 16, 6, 0, 0, 2, 1, 3, 6, 7, 5, 4];
     out.extend(8..=15);
@@ -471,7 +471,7 @@ fn print_hex(out: &mut impl Write, key: &str, bytes: &[u8]) -> std::io::Result<(
     writeln!(out)
 }
 
-/// A relocation as document 01 numbers it.
+/// A relocation by the numbers of include/dekvoz.h.
 pub(crate) fn five(reloc: &Reloc) -> [u64; 5] {
     assert_eq!(reloc.after, 0, "a table has nothing behind the field");
     let (kind, size) = match reloc.kind {

@@ -1,4 +1,4 @@
-//! The rows of a function, in the shape that document 01 gives.
+//! The rows of a function, in a shape of this repository.
 
 #[derive(Debug, Clone, Copy, PartialEq, Eq)]
 pub enum CfiOp {

@@ -1,4 +1,4 @@
-//! The machine, in the shape that document 01 gives.
+//! The machine, in a shape of this repository.
 
 #[derive(Debug, Clone, Copy, PartialEq, Eq)]
 pub enum ObjectFormat {
@@ -15,7 +15,7 @@ pub enum Class {
     Sse,
 }
 
-/// A machine register. Document 01 gives the stack and frame pointer by their DWARF numbers, so a
+/// A machine register. A machine has the stack and frame pointer by their DWARF numbers, so a
 /// register carries that number itself, and a machine without a frame pointer carries none.
 #[derive(Debug, Clone, Copy)]
 pub struct Reg {
