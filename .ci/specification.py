@@ -1,6 +1,6 @@
 #!/usr/bin/env python3
 """docs/SPECIFICATION.md against the sources: each definition, law and function that it names is there, and its table of questions has the
-numbers and names of crates/format/specs/Numbers.antt, in their order.
+numbers and names of crates/format/specs/Numbers.antt, in their order; so has include/dekvoz.h in `enum unwind_question` the numbers.
 
 `File: a, b` in backticks are names of crates/format/specs/File.antt or crates/format/proofs/File.antt, `crate/File: a` those of another
 crate; `crate/proofs: a` stands in any file of that folder. `crate::a` and `unwind_a` are functions of the code."""
@@ -60,6 +60,9 @@ def main():
     table = re.findall(r'^\| (\d+) \| (\w+) \|', page, re.M)
     if [(name, number) for number, name in table] != sorted(numbers, key=lambda x: int(x[1])):
         bad.append('the table of questions has other numbers or names than crates/format/specs/Numbers.antt')
+    header = re.search(r'enum unwind_question \{(.*?)\};', text([f'{ROOT}/include/dekvoz.h']), re.S).group(1)
+    if sorted(re.findall(r'= (\d+)', header)) != sorted(number for _, number in numbers):
+        bad.append('enum unwind_question of include/dekvoz.h has other numbers than crates/format/specs/Numbers.antt')
     for line in bad:
         print('specification:', line, file=sys.stderr)
     print(f'specification: {named} names of definitions, laws and functions, {len(table)} questions')
