@@ -1,11 +1,11 @@
 #!/usr/bin/env python3
-"""Makes the lists that differential/speed times, as cases in text form (README.md). The same arguments make the same text.
+"""Makes the lists that differential/speed/run times, as cases in text form (differential/README.md). The same arguments make the same text.
 
-    lists.py same N        N functions of one header
-    lists.py headers N H   N functions of H different headers, in turn: function k has header k mod H
-    lists.py blocks N      N functions, the first half of one header and the second of another
-    lists.py random N      N functions of one header, the kinds of their rows in random order
-    lists.py pairs N       one function of N rows, with relaxing labels and a pair for each step, in the order of the rows
+    performance_lists.py same N        N functions of one header
+    performance_lists.py headers N H   N functions of H different headers, in turn: function k has header k mod H
+    performance_lists.py blocks N      N functions, the first half of one header and the second of another
+    performance_lists.py random N      N functions of one header, the kinds of their rows in random order
+    performance_lists.py pairs N       one function of N rows, with relaxing labels and a pair for each step, in the order of the rows
 
 Every function but that of `pairs` has 20 rows, and every list is one of ELF's eh_frame on x86-64."""
 
