@@ -3,8 +3,9 @@
     (gdb) source examples/gdb/record.py
     (gdb) dekvoz-record fault.bin
 
-writes the file (request W-202: stack, registers by DWARF number, trailer) and prints the command that walks it. A second word is how many
-bytes of the stack are recorded, 32,768 where there are so many. The program's own functions are walked, not those of its libraries."""
+writes the file (stack, registers by DWARF number, trailer: docs/SPECIFICATION.md, "Walk") and prints the command that walks it.
+A second word is how many bytes of the stack are recorded, 32,768 where there are so many. The program's own functions are walked,
+not those of its libraries."""
 
 import gdb
 
