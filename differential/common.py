@@ -1,4 +1,5 @@
-"""What the checks share: where things are, how a driver is asked, how its answers are compared, how bytes are damaged, LEB numbers."""
+"""What the checks share: where things are, how a driver is asked and its answers are compared, how bytes are damaged,
+LEB numbers."""
 
 import os
 import subprocess
@@ -27,7 +28,8 @@ def run(program, text):
 def ask(driver, lines):
     """What a driver of drivers/ answers: a line for each question."""
     text = "".join(f"{line}\n" for line in lines)
-    return subprocess.run([os.path.join(OUT, driver)], input=text, capture_output=True, text=True, check=True).stdout.splitlines()
+    done = subprocess.run([os.path.join(OUT, driver)], input=text, capture_output=True, text=True, check=True)
+    return done.stdout.splitlines()
 
 
 def numbers_of(line):
