@@ -1,6 +1,6 @@
 #!/usr/bin/env python3
-"""docs/SPECIFICATION.md against the sources: each definition, law and function that it names is there, and its
-table of questions has the numbers and names of crates/format/specs/Numbers.antt, in their order; so has
+"""docs/SPECIFICATION.md against the sources: each definition, law and function that it names is there, and
+its table of questions has the numbers and names of crates/format/specs/Numbers.antt, in their order; so has
 include/dekvoz.h in `enum unwind_question` the numbers.
 
 `File: a, b` in backticks are names of crates/format/specs/File.antt or crates/format/proofs/File.antt,

@@ -1,5 +1,5 @@
-"""What the checks share: where things are, how a driver is asked and its answers are compared, how bytes are damaged,
-LEB numbers."""
+"""What the checks share: where things are, how a driver is asked and its answers are compared, how bytes are
+damaged, LEB numbers."""
 
 import os
 import subprocess
@@ -37,7 +37,8 @@ def numbers_of(line):
 
 
 def agreed(check, judged, printed):
-    """The numbers that a driver printed, one line for each of (what was asked, what the judge says of it); ends where one is not so."""
+    """The numbers that a driver printed, one line for each of (what was asked, what the judge says of it); the
+    check ends where they are not the same."""
     for (what, want), line in zip(judged, printed, strict=True):
         got = numbers_of(line)
         if got != want:
