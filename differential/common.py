@@ -37,7 +37,7 @@ def numbers_of(line):
 
 
 def agreed(check, judged, printed):
-    """The numbers that a driver printed, one line for each of (what was asked, what the judge says of it); the
+    """The numbers that a driver printed, a line for each of (what was asked, what the judge says of it); the
     check ends where they are not the same."""
     for (what, want), line in zip(judged, printed, strict=True):
         got = numbers_of(line)
