@@ -189,7 +189,7 @@ def stored_claims():
             else:
                 claims.append((case["name"].replace("_", "-"), term(case), answer))
     if differing:
-        sys.exit(f"ours.txt names cases that are not there: {', '.join(differing)}")
+        sys.exit(f"rust/differences.txt names cases that are not there: {', '.join(differing)}")
     return claims, left
 
 
