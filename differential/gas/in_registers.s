@@ -1,5 +1,5 @@
 # The function of the case in_registers.
-# Not compared: the Rust has no such rows. exports.py compares the library's bytes with these.
+# Not compared: the Rust has no such rows. checks/writers.py compares the library's bytes with these.
 s16:
 	.cfi_startproc
 	.cfi_same_value 3

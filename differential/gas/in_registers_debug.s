@@ -1,5 +1,5 @@
 # The function of the case in_registers_debug.
-# Not compared: the Rust has no such rows. exports.py compares the library's bytes with these.
+# Not compared: the Rust has no such rows. checks/writers.py compares the library's bytes with these.
 	.cfi_sections .debug_frame
 s16:
 	.cfi_startproc
