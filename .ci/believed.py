@@ -16,7 +16,8 @@ definition by definition, through the `ghost use` lines of the sources and the `
   contract reaches;
 - README.md names a lemma anywhere but under "Steps of the proofs", where each has to be cited by another proof, or under "Proved, and
   stated by no contract";
-- a function of a crate of theorems is not named in that table;
+- a crate of theorems is not named in that table, or a function of its src/lib.rt is not;
+- a public entry has a `requires`, and is none of HELPERS;
 - a reached file is not in the table of the files to believe or stands in a proofs/ folder, a file of the table is not reached, or a
   count of lines is off by more than a tenth;
 - a definition of a folder in WHOLE is not reached;
@@ -25,6 +26,8 @@ definition by definition, through the `ghost use` lines of the sources and the `
 import os, re, sys
 
 ROOT = os.path.join(os.path.dirname(os.path.abspath(__file__)), '..')
+# Public for the crates that write and then read (docs/DECISIONS.md, D87).
+HELPERS = ('unwind::numbers_in',)
 WHOLE = ('crates/format/specs/', 'crates/unwind/specs/')
 READ_BACK = 'Demanded'
 EXPORTS = 'crates/dekvoz/'
@@ -185,9 +188,10 @@ def libraries():
 
 
 class Function:
-    """A `pub fn`, or a conversion: where it stands, whether C calls it, and what its clauses cite."""
+    """A `pub fn`, or a conversion: where it stands, whether C calls it, whether it has a `requires`, and what its clauses cite."""
     def __init__(self, path, name, exported=False):
-        self.path, self.crate, self.name, self.exported, self.cites = path, path.split('/')[1], name, exported, []
+        self.path, self.crate, self.name, self.exported = path, path.split('/')[1], name, exported
+        self.requires, self.cites = False, []
 
     def __str__(self):
         return f'{self.crate}::{self.name}'
@@ -220,6 +224,8 @@ def functions():
                 if gives:
                     into = Function(path, method + gives.group(1))
                     found.append(into)
+                elif line.strip().startswith('requires'):
+                    now.requires = True
                 for word in words(clause(lines, i)):
                     means = meaning(word, names, aliases)
                     if means:
@@ -375,6 +381,13 @@ def unnamed(every, named):
     return [f for f in every if f.crate in of_theorems(every) and (f.last(), f.path) not in names]
 
 
+def owed(every, named):
+    """Those of them that it has to name: a crate's own, in src/lib.rt, and one where the crate has no name there at all."""
+    missing = unnamed(every, named)
+    known = {f.crate for f in every if f not in missing}
+    return [f for f in missing if f.path.endswith('/src/lib.rt') or f.crate not in known]
+
+
 def told(heading):
     """The names in backticks of a part of README.md."""
     return {name for line in section(heading) for name in re.findall(r'`([\w-]+)`', line)}
@@ -417,8 +430,11 @@ def unreached(folders, believed):
 def complaints(every, named, believed, counted, listed):
     yield from exported()
     yield from misnamed(every, named, believed)
-    for f in unnamed(every, named):
+    for f in owed(every, named):
         yield f"{f} is a function of a crate of theorems, and README.md's table of theorems does not name it"
+    for f in entries(every, named):
+        if f.requires and str(f) not in HELPERS:
+            yield f'{f} is a public entry and has a `requires`'
     for path in sorted(counted):
         if '/proofs/' in path:
             for name in sorted(name for p, name in believed if p == path):
