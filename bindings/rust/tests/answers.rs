@@ -3,9 +3,9 @@
 
 use dekvoz::lists::{self, Lent, Packed};
 use dekvoz::{
-    apply, read, relaxed_debug_frame, relaxed_table, row_check, seh, Code, CodeOp, Format, Frame, Function, Kind, Landing,
-    Machine, MachineRegister, Op, Pair, Personality, Pointer, Prologue, Question, Refusal, Relaxed, Relocation, Row, Rule,
-    Rules, Section, Site, Table, Target, Word,
+    apply, check_section, read, relaxed_debug_frame, relaxed_table, row_check, seh, CheckRefusal, Code, CodeOp, Format, Frame,
+    Function, Kind, Landing, Machine, MachineRegister, Op, Pair, Personality, Pointer, Prologue, Question, Refusal, Relaxed,
+    Relocation, Row, Rule, Rules, Section, Site, Table, Target, Word,
 };
 
 const X86: &Machine = &Machine::X86_64;
@@ -314,4 +314,19 @@ fn x64_record() {
     let mut held = [7; 14];
     assert_eq!(lists::read_x64(&info, 0, &mut held).unwrap_err().number, 54);
     assert_eq!(held, [7; 14]);
+}
+
+/// A record of length 0 passes the check whatever its header is (docs/DIFFERENCES.md): here one whose pointers have encoding 0x00, of which the
+/// upper half stands where the check looks for the length.
+#[test]
+fn a_record_of_length_0_passes_the_check_unread() {
+    let header = "10000000 00000000 01 7a5200 01 78 10 01 00 000000";
+    let record = "18000000 18000000 0010400000000000 2000000000000000 00 000000";
+    let mut section = hex(&[header, record].concat());
+    assert_eq!(section.len(), 48);
+    assert_eq!(check_section(&section, Word::Eight), Ok(()));
+    let refused = Refusal { number: 64, position: 0 };
+    assert_eq!(read(&section, &[], Section::Eh, Word::Eight, 0, 16, 0), Err(refused));
+    section[32] = 1;
+    assert_eq!(check_section(&section, Word::Eight), Err(CheckRefusal::Record(0)));
 }

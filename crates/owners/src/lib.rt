@@ -174,9 +174,10 @@ fn choose(x: &Input, k: usize, first: usize, chains: &Chains) -> Option<usize>
             continue 'functions;
         }
         'rows: for i in 0..count {
-            if !same_leading(x, other, own, i) {
-                continue 'functions;
+            if same_leading(x, other, own, i) {
+                continue 'rows;
             }
+            continue 'functions;
         }
         return Some(j);
     }

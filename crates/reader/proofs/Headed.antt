@@ -23,8 +23,9 @@ use Rattle.std.specs.Prelude.{Some, None}
 use Rattle.std.specs.Prelude as code
 use Rattle.format.proofs.Asked.{option_of, value_is, none_is}
 use Rattle.reader.specs.Spans.{part}
-use Rattle.reader.specs.Fields.{Rests, letters_of, ReadsAugmentation, Counts, CountsIn, Heading, tail_mark, header_factors}
+use Rattle.reader.specs.Fields.{Rests, letters_of, ReadsAugmentation, Counts, CountsIn, Heading, Heads, tail_mark, header_factors}
 use Rattle.reader.specs.declared.fields.Augmentation.{Augmentation}
+use Rattle.reader.specs.declared.fields.Header.{Header}
 use Rattle.reader.proofs.Augmentation.{byte_there, byte_none, counts, counts_none}
 
 -- ---- the augmentation data, and the operations behind it
@@ -54,6 +55,14 @@ module _ (s : List ℕ) (p : Position) (debug : Bool) (word : ℕ) (l : Augmenta
           → Heading s (tail_mark debug s p) (record { at = e; shortest = a.shortest }) n l.signal tail
       unfolding header_tail next after
       tail_there w = record { inside = tail_counts.inside; read = rw (d, tail_counts.read, value_is _ w); mark = rw d tail_counts.mark }
+
+-- what the data that was read says
+module _ (s : List ℕ) (b : Bool) {h : code.Option Header} {x : Option HeaderFields} (m : Heads s b h x) where
+  pub tail_absent : h ≡ None → x ≡ none
+  tail_absent e = subst (λ (h : code.Option Header). Heads s b h x) e m
+
+  pub tail_given : {o : Header} → h ≡ Some o → Heading s b o.operations o.pointer o.signal x
+  tail_given e = subst (λ (h : code.Option Header). Heads s b h x) e m
 
 -- ---- the factors and the return address register
 

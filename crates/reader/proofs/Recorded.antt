@@ -1,5 +1,5 @@
 -- A record's fields at positions, from its augmentation back to its second field.
-use mathlib.Core.Path.{◌≡◌, ◌∙◌}
+use mathlib.Core.Path.{◌≡◌, subst, ◌∙◌}
 use mathlib.Core.Bool.{Bool, true, false, ◌&&◌, and-true}
 use mathlib.Core.Option.{Option, none}
 use mathlib.Core.List.{List}
@@ -18,9 +18,10 @@ use Rattle.operations.specs.declared.fields.Position.{Position}
 use Rattle.format.proofs.FieldsBack.{word_small}
 use Rattle.operations.proofs.PositionLaws.{little_ahead, little_rest, little_kept, little_none}
 use Rattle.reader.specs.Spans.{part}
-use Rattle.reader.specs.Fields.{Counts, CountsIn, tail_mark, Recording}
+use Rattle.reader.specs.Fields.{Counts, CountsIn, tail_mark, Recording, Records}
 use Rattle.std.specs.Prelude.{Some, None}
 use Rattle.std.specs.Prelude as code
+use Rattle.reader.specs.declared.fields.Record.{Record}
 use Rattle.reader.proofs.Augmentation.{counts, counts_none}
 
 -- ---- the augmentation, and the operations behind it
@@ -52,6 +53,14 @@ module _ (s : List ℕ) (p : Position) (debug : Bool) (pointer size : ℕ) where
       pub tail_there : pointer ≤ e - a.at → Recording s (tail_mark debug s p) (record { at = e; shortest = a.shortest }) size tail
       unfolding record_tail next require pick
       tail_there h = record { inside = tail_counts.inside; read = rw (d, tail_counts.read, held) (simp (le-leb pointer (e - a.at) h)); mark = rw d tail_counts.mark }
+
+-- what the augmentation that was read says
+module _ (s : List ℕ) (b : Bool) {r : code.Option Record} {x : Option RecordFields} (m : Records s b r x) where
+  pub tail_absent : r ≡ None → x ≡ none
+  tail_absent e = subst (λ (r : code.Option Record). Records s b r x) e m
+
+  pub tail_given : {o : Record} → r ≡ Some o → Recording s b o.operations o.size x
+  tail_given e = subst (λ (r : code.Option Record). Records s b r x) e m
 
 -- ---- the fields in front of it
 

@@ -15,7 +15,7 @@ use Rattle.format.specs.Lists.{Relocation}
 use Rattle.format.specs.Reader.{Entry, entries, records, header_place, header_at, parse_header, parse_record, header_short, record_short, Found, parsed, locate}
 use Rattle.reader.specs.Spans.{part, entry_in, entry_of, listed, Holds, Stands, Spans}
 use Rattle.reader.specs.declared.section.Span.{Span}
-use Rattle.reader.specs.Fields.{Heading, Heads, Recording, Records}
+use Rattle.reader.specs.Fields.{Heading, Recording}
 use Rattle.reader.specs.Finds.{two_entries, Stated}
 use Rattle.std.specs.Prelude.{Some, None}
 use Rattle.std.specs.Prelude as code
@@ -46,46 +46,38 @@ module _ (s : List ℕ) (debug : Bool) (word cie past at end : ℕ) where
   abbrev fde_body : List ℕ
   fde_body = part s (at + 4) end
 
-  module _ {h : code.Option Header} (m : Heads cie_body (header_short debug cie_body) h (parse_header debug word cie_body)) where
-    pub fields_header : h ≡ None → fields_of s debug word cie past at end ≡ bad 64
+  pub fields_header : {n : ℕ} → (n ≡ 64) × (parse_header debug word cie_body ≡ none) → fields_of s debug word cie past at end ≡ bad n
+  unfolding parsed onward or_else
+  fields_header (n, missing) = rw (n, missing)
+
+  module _ {head : Header} (heading : Heading cie_body (header_short debug cie_body) head.operations head.pointer head.signal (parse_header debug word cie_body)) where
+    pub header_held : cie + 8 ≤ past → past ≤ length s → cie + 4 + head.operations.at ≤ past
+    header_held l i = omega (arith, heading.inside, length-take-le (past - (cie + 4)) (drop (cie + 4) s) (omega (arith, length-drop (cie + 4) s)))
+
+    pub fields_record : {n : ℕ} → (n ≡ 64) × (parse_record debug word head.pointer fde_body ≡ none) → fields_of s debug word cie past at end ≡ bad n
     unfolding parsed onward or_else
-    fields_header e = rw (subst (λ (h : code.Option Header). Heads cie_body (header_short debug cie_body) h (parse_header debug word cie_body)) e m)
+    fields_record (n, missing) = rw (heading.read, n, missing)
 
-    module _ {head : Header} (e : h ≡ Some head) where
-      heading : Heading cie_body (header_short debug cie_body) head.operations head.pointer head.signal (parse_header debug word cie_body)
-      heading = subst (λ (h : code.Option Header). Heads cie_body (header_short debug cie_body) h (parse_header debug word cie_body)) e m
+    module _ {tail : Record} (recording : Recording fde_body (head.operations.shortest && record_short debug fde_body) tail.operations tail.size (parse_record debug word head.pointer fde_body)) where
+      pub record_held : at + 8 ≤ end → end ≤ length s → at + 4 + tail.operations.at ≤ end
+      record_held l i = omega (arith, recording.inside, length-take-le (end - (at + 4)) (drop (at + 4) s) (omega (arith, length-drop (at + 4) s)))
 
-      pub header_held : cie + 8 ≤ past → past ≤ length s → cie + 4 + head.operations.at ≤ past
-      header_held l i = omega (arith, heading.inside, length-take-le (past - (cie + 4)) (drop (cie + 4) s) (omega (arith, length-drop (cie + 4) s)))
+      marks : tail.operations.shortest ≡ (header_short debug cie_body && record_short debug fde_body)
+      marks = recording.mark ∙ ap (λ (b : Bool). b && record_short debug fde_body) heading.mark
 
-      module _ {r : code.Option Record} (k : Records fde_body (head.operations.shortest && record_short debug fde_body) r (parse_record debug word head.pointer fde_body)) where
-        pub fields_record : r ≡ None → fields_of s debug word cie past at end ≡ bad 64
-        unfolding parsed onward or_else
-        fields_record f = rw (heading.read, subst (λ (r : code.Option Record). Records fde_body (head.operations.shortest && record_short debug fde_body) r (parse_record debug word head.pointer fde_body)) f k)
-
-        module _ {tail : Record} (f : r ≡ Some tail) where
-          recording : Recording fde_body (head.operations.shortest && record_short debug fde_body) tail.operations tail.size (parse_record debug word head.pointer fde_body)
-          recording = subst (λ (r : code.Option Record). Records fde_body (head.operations.shortest && record_short debug fde_body) r (parse_record debug word head.pointer fde_body)) f k
-
-          pub record_held : at + 8 ≤ end → end ≤ length s → at + 4 + tail.operations.at ≤ end
-          record_held l i = omega (arith, recording.inside, length-take-le (end - (at + 4)) (drop (at + 4) s) (omega (arith, length-drop (at + 4) s)))
-
-          marks : tail.operations.shortest ≡ (header_short debug cie_body && record_short debug fde_body)
-          marks = recording.mark ∙ ap (λ (b : Bool). b && record_short debug fde_body) heading.mark
-
-          pub fields_there : T (is_word_size word) → cie + 8 ≤ past → past ≤ length s → at + 8 ≤ end → end ≤ length s
-              → Stated s word (record { header = cie + 4 + head.operations.at; header_end = past; «record» = at + 4 + tail.operations.at; record_end = end; size = tail.size; pointer = head.pointer; signal = head.signal; word = word; shortest = tail.operations.shortest }) (fields_of s debug word cie past at end)
-          unfolding parsed onward or_else
-          fields_there is l i l' i' =
-              record {
-                answer = rw (heading.read, recording.read, drop-part s (cie + 4) past head.operations.at, drop-part s (at + 4) end tail.operations.at, marks);
-                header_ordered = header_held l i;
-                header_inside = i;
-                record_ordered = record_held l' i';
-                record_inside = i';
-                same_word = refl;
-                is_word = is;
-              }
+      pub fields_there : T (is_word_size word) → cie + 8 ≤ past → past ≤ length s → at + 8 ≤ end → end ≤ length s
+          → Stated s word (record { header = cie + 4 + head.operations.at; header_end = past; «record» = at + 4 + tail.operations.at; record_end = end; size = tail.size; pointer = head.pointer; signal = head.signal; word = word; shortest = tail.operations.shortest }) (fields_of s debug word cie past at end)
+      unfolding parsed onward or_else
+      fields_there is l i l' i' =
+          record {
+            answer = rw (heading.read, recording.read, drop-part s (cie + 4) past head.operations.at, drop-part s (at + 4) end tail.operations.at, marks);
+            header_ordered = header_held l i;
+            header_inside = i;
+            record_ordered = record_held l' i';
+            record_inside = i';
+            same_word = refl;
+            is_word = is;
+          }
 
 -- ---- 61, 62 and 63
 

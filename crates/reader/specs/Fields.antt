@@ -1,8 +1,10 @@
 -- The fields of a header and of a record by positions: what was read, and where the rest stands.
-use Rattle.std.specs.Prelude.{◌≡◌, ℕ, ◌≤◌, Bool, true, false, ◌&&◌, List, [], ◌∷◌, length, drop, eqb, Some, None}
+use Rattle.std.specs.Prelude.{◌≡◌, ℕ, ◌≤◌, Bool, true, false, ◌&&◌, List, [], ◌∷◌, length, drop, eqb, Some, None, Ok, Err}
 use Rattle.std.specs.Prelude as code
 use Rattle.std.proofs.Math.Option.{Option, none, some}
 use Rattle.format.specs.Prelude.{pick, Read, next}
+use Rattle.format.specs.Numbers.{number_of}
+use Rattle.format.specs.declared.question.Question.{Question}
 use Rattle.format.specs.Leb.{read_uleb, read_sleb}
 use Rattle.format.specs.Rows.{read_register, same_offset}
 use Rattle.format.specs.Headers.{data_factor}
@@ -81,6 +83,11 @@ abbrev pub Heads : List ℕ → Bool → code.Option Header → Option HeaderFie
 Heads s b (Some h) x = Heading s b h.operations h.pointer h.signal x
 Heads s b None x = x ≡ none
 
+-- these, or question 64
+abbrev pub ParsesHeader : List ℕ → Bool → code.Result Header Question → Option HeaderFields → Type 0
+ParsesHeader s b (Ok h) x = Heading s b h.operations h.pointer h.signal x
+ParsesHeader s b (Err q) x = (number_of q ≡ 64) × (x ≡ none)
+
 -- from the code alignment factor on
 unfoldable pub header_factors : (debug : Bool) → Letters → ℕ → List ℕ → Option HeaderFields
 header_factors debug l word bs =
@@ -99,3 +106,8 @@ pub record Recording (s : List ℕ) (b : Bool) (q : Position) (size : ℕ) (x : 
 abbrev pub Records : List ℕ → Bool → code.Option Record → Option RecordFields → Type 0
 Records s b (Some r) x = Recording s b r.operations r.size x
 Records s b None x = x ≡ none
+
+-- these, or question 64
+abbrev pub ParsesRecord : List ℕ → Bool → code.Result Record Question → Option RecordFields → Type 0
+ParsesRecord s b (Ok r) x = Recording s b r.operations r.size x
+ParsesRecord s b (Err q) x = (number_of q ≡ 64) × (x ≡ none)

@@ -1,4 +1,5 @@
-// The fields of headers and records: question 64.
+// The fields of headers and records: question 64. What one field needs answers an Option, which `?` passes on; where the answer meets the
+// question, `let .. else` names it (docs/DECISIONS.md, D121).
 ghost use Rattle.std.specs.Prelude.{◌≡◌, true, false, ◌&&◌, ◌≤◌, length, drop};
 ghost use Rattle.format.specs.Questions.{is_some};
 ghost use Rattle.format.specs.Reader.{strip, spellings, read_letters, read_counted, personality_in, lsda_in, letters_in, header_tail, parse_header, record_tail, parse_record, header_numbers, header_short, record_short};
@@ -7,9 +8,10 @@ ghost use Rattle.format.specs.Shortest.{numbers_short};
 ghost use Rattle.format.specs.Rows.{same_offset};
 ghost use Rattle.format.specs.Headers.{pointer_size, data_factor};
 ghost use Rattle.format.proofs.Asked.{option_of};
-ghost use Rattle.reader.specs.Fields.{letters_of, two_of, ReadsAugmentation, CountsIn, SkipsTo, Numbers, Heads, tail_mark, header_factors, Records};
+ghost use Rattle.reader.specs.Fields.{letters_of, two_of, ReadsAugmentation, CountsIn, SkipsTo, Numbers, Heads, ParsesHeader, tail_mark, header_factors, Records, ParsesRecord};
 
 use crate::section::{Body, Layout};
+use format::Question;
 use numbers::encodings;
 use operations::fields::{Position, read_le, read_sleb, read_uleb};
 
@@ -210,43 +212,56 @@ pub fn factor_ok(z: i64, word: u64) -> bool
 
 impl Body<'_> {
     // From the code alignment factor on.
-    fn header_factors(&self, at: Position, p: Augmentation) -> Option<Header>
-        ensures { Heads self.now.bytes.now (at.shortest && numbers_short (header_numbers self.now.layout.debug) (drop at.at self.now.bytes.now)) result (header_factors self.now.layout.debug (letters_of p) self.now.layout.word (drop at.at self.now.bytes.now)) }
+    fn header_factors(&self, at: Position, p: Augmentation) -> Result<Header, Question>
+        ensures { ParsesHeader self.now.bytes.now (at.shortest && numbers_short (header_numbers self.now.layout.debug) (drop at.at self.now.bytes.now)) result (header_factors self.now.layout.debug (letters_of p) self.now.layout.word (drop at.at self.now.bytes.now)) }
     {
         let s = self.bytes;
-        let (code, data) = read_uleb(s, at)?;
+        let Some((code, data)) = read_uleb(s, at) else {
+            return Err(Question::Fields);
+        };
         if code != 1 {
-            return None;
+            return Err(Question::Fields);
         }
-        let (z, ret) = read_sleb(s, data)?;
+        let Some((z, ret)) = read_sleb(s, data) else {
+            return Err(Question::Fields);
+        };
         if !factor_ok(z, self.layout.word) {
-            return None;
+            return Err(Question::Fields);
         }
-        let (reg, tail) = read_uleb(s, ret)?;
+        let Some((reg, tail)) = read_uleb(s, ret) else {
+            return Err(Question::Fields);
+        };
         if 0xffff < reg {
-            return None;
+            return Err(Question::Fields);
         }
-        self.header_tail(tail, p)
+        let Some(header) = self.header_tail(tail, p) else {
+            return Err(Question::Fields);
+        };
+        Ok(header)
     }
 
     // Question 64 of a header, by the bytes behind its length.
-    pub fn parse_header(&self) -> Option<Header>
-        ensures { Heads self.now.bytes.now (header_short self.now.layout.debug self.now.bytes.now) result (parse_header self.now.layout.debug self.now.layout.word self.now.bytes.now) }
+    pub fn parse_header(&self) -> Result<Header, Question>
+        ensures { ParsesHeader self.now.bytes.now (header_short self.now.layout.debug self.now.bytes.now) result (parse_header self.now.layout.debug self.now.layout.word self.now.bytes.now) }
     {
         let s = self.bytes;
-        let (_, version) = read_le(s, Position::START, 4)?;
+        let Some((_, version)) = read_le(s, Position::START, 4) else {
+            return Err(Question::Fields);
+        };
         let from = version.at;
         if s.len() <= from {
-            return None;
+            return Err(Question::Fields);
         }
         if s[from] != 1 {
-            return None;
+            return Err(Question::Fields);
         }
         let string = Position {
             at: from + 1,
             ..version
         };
-        let (p, past) = self.letters(string)?;
+        let Some((p, past)) = self.letters(string) else {
+            return Err(Question::Fields);
+        };
         self.header_factors(past, p)
     }
 }
@@ -293,15 +308,24 @@ pub fn field_size(debug: bool, word: u64) -> u64
 
 impl Body<'_> {
     // Question 64 of a record; `shortest` is the mark of what was read before.
-    pub fn parse_record(&self, pointer: u64, shortest: bool) -> Option<Record>
-        ensures { Records self.now.bytes.now (shortest && record_short self.now.layout.debug self.now.bytes.now) result (parse_record self.now.layout.debug self.now.layout.word pointer self.now.bytes.now) }
+    pub fn parse_record(&self, pointer: u64, shortest: bool) -> Result<Record, Question>
+        ensures { ParsesRecord self.now.bytes.now (shortest && record_short self.now.layout.debug self.now.bytes.now) result (parse_record self.now.layout.debug self.now.layout.word pointer self.now.bytes.now) }
     {
         let s = self.bytes;
         let n = field_size(self.layout.debug, self.layout.word) as usize;
         let start = Position { at: 0, shortest };
-        let (_, place) = read_le(s, start, 4)?;
-        let (_, length) = read_le(s, place, n)?;
-        let (size, tail) = read_le(s, length, n)?;
-        self.record_tail(tail, pointer, size)
+        let Some((_, place)) = read_le(s, start, 4) else {
+            return Err(Question::Fields);
+        };
+        let Some((_, length)) = read_le(s, place, n) else {
+            return Err(Question::Fields);
+        };
+        let Some((size, tail)) = read_le(s, length, n) else {
+            return Err(Question::Fields);
+        };
+        let Some(record) = self.record_tail(tail, pointer, size) else {
+            return Err(Question::Fields);
+        };
+        Ok(record)
     }
 }

@@ -140,13 +140,9 @@ impl<'a> Section<'a> {
         ensures located { Locates self.now.bytes.now self.now.layout.word result (parsed self.now.layout.debug self.now.layout.word (entry_of self.now.bytes.now cie) (entry_of self.now.bytes.now fde)) }
         ensures ends { IfOk result (λ l. (l.header_end ≡ cie.end) × (l.record_end ≡ fde.end)) }
     {
-        let Some(header) = self.body(cie).parse_header() else {
-            return Err(Question::Fields);
-        };
+        let header = self.body(cie).parse_header()?;
         let rules = header.operations;
-        let Some(record) = self.body(fde).parse_record(header.pointer, rules.shortest) else {
-            return Err(Question::Fields);
-        };
+        let record = self.body(fde).parse_record(header.pointer, rules.shortest)?;
         let rows = record.operations;
         Ok(Located {
             header: cie.at + 4 + rules.at,

@@ -23,9 +23,7 @@ use Rattle.format.specs.Coded.{result_of}
 use Rattle.format.proofs.Asked.{option_of, value_is, none_is}
 use Rattle.std.specs.Prelude.{Some, None, Ok, Err}
 use Rattle.std.specs.Prelude as code
-use Rattle.std.specs.Option.{ok_or}
 use Rattle.format.specs.Coded.{numbered}
-use Rattle.format.specs.declared.question.Question.TheVariants.{Fields}
 
 -- ---- the fields
 
@@ -148,17 +146,13 @@ module _ (s : List ℕ) (debug : Bool) (word address place : ℕ) where
       abbrev of_entry : code.Option (ℕ × ℕ)
       of_entry = option_of (function_of debug word address (entry_in s place end))
 
-      function_short : of_entry ≡ None → Err 64 ≡ wanted
+      pub function_short : of_entry ≡ None → Err 64 ≡ wanted
       unfolding function_found after require pick or_else
       function_short n = rw (entry_here s place e, y, none_is (function_of debug word address (entry_in s place end)) n) refl
 
-      function_record : {f : ℕ × ℕ} → of_entry ≡ Some f → Ok f ≡ wanted
+      pub function_record : {f : ℕ × ℕ} → of_entry ≡ Some f → Ok f ≡ wanted
       unfolding function_found after require pick or_else
       function_record n = rw (entry_here s place e, y, value_is (function_of debug word address (entry_in s place end)) n) refl
-
-      pub function_given : (o : code.Option (ℕ × ℕ)) → o ≡ of_entry → numbered (ok_or o Fields) ≡ wanted
-      function_given None n = function_short (sym n)
-      function_given (Some f) n = function_record (sym n)
 
 module _ (section : List ℕ) (kind word address place : ℕ) where
   pub function_unasked : asked kind word ≡ false → placed_as (Err 11) ≡ function_at section kind word address place

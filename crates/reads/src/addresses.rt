@@ -92,7 +92,10 @@ impl<'a> Loaded<'a> {
         if entry.is_header(s, debug) {
             return Err(Question::Fields);
         }
-        self.function_of(entry).ok_or(Question::Fields)
+        let Some(function) = self.function_of(entry) else {
+            return Err(Question::Fields);
+        };
+        Ok(function)
     }
 
     // A record holds the address.

@@ -218,6 +218,7 @@ pub fn bytes_in(o: Result<Option<Counts>, Refusal>) -> usize
     c.bytes as usize
 }
 
+// No entry: public for the crates that write and then read, with what every writer promises of its outcome for a `requires` (D87).
 #[tactic(auto, unfolding(crate::specs::Together::relocs_in))]
 pub fn numbers_in(o: Result<Option<Counts>, Refusal>, room: usize) -> usize
     requires { 5 * relocs_in (numbered_at o) ≤ room }

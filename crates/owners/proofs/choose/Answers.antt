@@ -83,11 +83,11 @@ pub functions-preserved : goal.functions-preserved
 functions-preserved c =
     on-next (goal.at.functions-preserved c).After-same_kind_and_signal
     (by_rows_lem (asked (goal.at.functions-preserved c).After-same_kind_and_signal) (ap not c.if-not-same_kind_and_signal.false)
-    (differ c.rows.invariant c.rows-test.true c.same_leading.ensures (ap not c.if-not-same_leading.true)))
+    (differ c.rows.invariant c.rows-test.true c.same_leading.ensures (ap not c.if-same_leading.false)))
 
 pub rows-preserved : goal.rows-preserved
 rows-preserved c =
-    turn c.rows.invariant c.rows-test.true c.same_leading.ensures (ap not c.if-not-same_leading.false)
+    turn c.rows.invariant c.rows-test.true c.same_leading.ensures (ap not c.if-same_leading.true)
 
 pub returns-in-Some : goal.returns-in-Some
 returns-in-Some c =
