@@ -1,16 +1,18 @@
 -- Call sites written and read back: where a record says that its table is, and what is read there.
-use Rattle.std.specs.Prelude.{◌≡◌, ◌≢◌, ℕ, ◌+◌, ◌-◌, ◌^◌, ◌<◌, true, false, List, [], ◌∷◌, ◌++◌, eqb}
+use Rattle.std.specs.Prelude.{◌≡◌, ◌≢◌, ℕ, ◌+◌, ◌-◌, ◌*◌, ◌^◌, ◌<◌, true, false, List, [], ◌∷◌, ◌++◌, take, eqb}
 use Rattle.std.proofs.Math.Option.{Option, none, some}
 use Rattle.std.proofs.Math.ListN.{get_elem?}
 use Rattle.format.specs.Prelude.{after, first, good}
-use Rattle.format.specs.Lists.{Landing, Relocation, function_stride, count}
+use Rattle.format.specs.Coded.{Outcome}
+use Rattle.format.specs.Lists.{Landing, Relocation, function_stride, relocation_stride, count, relocations_of}
 use Rattle.format.specs.Constants.{except_table}
 use Rattle.format.specs.Writer.{Written}
 use Rattle.format.specs.Questions.{Given, Answer, accepted, given_function}
 use Rattle.format.specs.Reader.{Entry, entries, records, first_addend}
-use Rattle.format.specs.CallSiteReader.{sites_at, covers, sites_short, site_numbers}
+use Rattle.format.specs.CallSiteReader.{sites_at, site_at, covers, sites_short, site_numbers, marked_site}
 use Rattle.format.proofs.Each.{Each}
 use Rattle.reader.specs.Spans.{listed}
+use Rattle.unwind.specs.Together.{bytes_in, relocs_in}
 
 -- a landing whose end has 64 bits; its pad, a number of a list, always has
 pub record SiteFits (l : Landing) : Type 0 where
@@ -30,6 +32,15 @@ table_place section rs k = after (get_elem? (records false (listed (entries sect
 unfoldable pub place_in : Option ℕ → ℕ
 place_in none = 2 ^ 64 - 1
 place_in (some place) = place
+
+-- the place in as much of a section and its relocations as an outcome says were written
+unfoldable pub written_place : Outcome → (bytes relocations : List ℕ) → (k : ℕ) → ℕ
+written_place o bytes relocations k =
+    place_in (table_place (take (bytes_in o) bytes) (relocations_of (take (relocation_stride * relocs_in o) relocations)) k)
+
+-- what the reader of call sites answers of the call-site bytes at a place, as numbers
+unfoldable pub site_answer : (sites : List ℕ) → (place offset : ℕ) → List ℕ
+site_answer sites place offset = marked_site (site_at sites place offset) (sites_short sites place)
 
 -- record k of a section has a pointer to the symbol of the call sites, and what is read there are the landings of function k, in numbers
 -- that are spelled shortest, whatever stands behind the call sites

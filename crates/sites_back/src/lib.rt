@@ -8,7 +8,7 @@ ghost use Rattle.format.specs.Questions.{relaxed_table, given_of, room_in};
 ghost use Rattle.format.specs.Coded.{numbered_at};
 ghost use Rattle.format.specs.Answers.{Writes};
 ghost use Rattle.call_sites.specs.Reads.{marked_of};
-ghost use Rattle.sites_back.specs.Back.{table_place, ReadBack};
+ghost use Rattle.sites_back.specs.Back.{table_place, written_place, site_answer, ReadBack};
 
 use call_sites::Site;
 use lists::output::WrittenAnd;
@@ -50,6 +50,7 @@ pub fn write_and_read_site(
     offset: u64,
 ) -> WrittenAnd<Site>
     ensures writes { Writes (relaxed_table 0 (given_of machine.now functions.now rows.now landings.now pairs.now) (room_in places.old bytes.old relocations.old sites.old)) (numbered_at result.outcome) places.old places.new bytes.old bytes.new relocations.old relocations.new sites.old sites.new }
+    ensures answer_value { marked_of result.answer ≡ site_answer sites.new (written_place (numbered_at result.outcome) bytes.new relocations.new k) offset }
     ensures read_back { ReadBack (given_of machine.now functions.now rows.now landings.now pairs.now) (relaxed_table 0 (given_of machine.now functions.now rows.now landings.now pairs.now) (room_in places.old bytes.old relocations.old sites.old)) k offset (marked_of result.answer) }
 {
     let outcome = unwind::relaxed_table(
