@@ -10,6 +10,8 @@ ghost use Rattle.format.specs.X64Reader.{read_x64, info_numbers, codes_stored};
 ghost use Rattle.x64_reader.specs.Reads.{read_numbers};
 ghost use Rattle.x64_back.specs.Given.{ReadBack, RowsBack};
 
+pub mod undo;
+
 use lists::output::WrittenAnd;
 use unwind::Format;
 use x64_reader::X64Reading;
