@@ -1,0 +1,7 @@
+-- What an ELF file says: its header, its tables of sections, segments, symbols and relocations, its names and notes.
+pub mod Fields
+pub mod Refusals
+pub mod Tables
+pub mod Header
+pub mod Sections
+pub mod Section

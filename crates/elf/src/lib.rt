@@ -1,0 +1,17 @@
+// The tables of an ELF file, little-endian, of 32 or 64 bits (System V gABI), over its bytes as they are lent.
+#![tactic(auto)]
+
+mod class;
+mod fields;
+mod header;
+mod refusal;
+mod section;
+mod sections;
+mod table;
+
+pub use class::Class;
+pub use header::{ElfHeader, unwind_elf_header};
+pub use refusal::{Reason, Refusal};
+pub use section::{ElfSection, unwind_elf_section};
+pub use sections::{ElfSections, Sections, unwind_elf_sections};
+pub use table::{Table, table_law};

@@ -1,0 +1,64 @@
+//! Tables in a file: entries of one size, one after another.
+
+ghost use Rattle.std.specs.Prelude.{◌≡◌, ℕ, List, ◌+◌, ◌*◌, ◌≤◌, ◌<◌, length, slice_get, true, None, Some, IfOk, OnOk};
+ghost use Rattle.std.specs.List.{concat};
+ghost use Rattle.std.specs.Int.{Width, byte_len};
+ghost use Rattle.elf.specs.Fields.{field, piece};
+ghost use Rattle.elf.specs.Refusals.{Gives};
+ghost use Rattle.elf.specs.Tables.{is_inside, entries, entry_of, entry_place};
+
+use crate::refusal::{Reason, Refusal};
+
+/// Where a table lies in a file.
+#[derive(Clone, Copy)]
+pub struct Table {
+    pub place: u64,
+    pub size: u64,
+    pub count: u64,
+}
+
+impl Table {
+    /// Whether all of the table lies in a file of this length.
+    pub fn is_inside(self, len: u64) -> bool
+        ensures { result ≡ is_inside self len }
+    {
+        match self.size.checked_mul(self.count) {
+            Some(all) => all <= len && self.place <= len - all,
+            None => false,
+        }
+    }
+
+    /// Where the entry at an index of a table that lies in a file stands.
+    pub fn entry_place(self, index: u64, len: u64) -> u64
+        requires inside { is_inside self len ≡ true }
+        requires there { index < self.count }
+        ensures value { result ≡ entry_place self index }
+        ensures inside { result + self.size ≤ len }
+    {
+        self.place + self.size * index
+    }
+
+    /// The bytes of the entry at an index, of a table that lies in the file.
+    #[tactic(auto, using(crate::proofs::Tables::entry_past, crate::proofs::Tables::entry_there))]
+    pub fn get(self, file: &[u8], index: u64) -> Result<&[u8], Refusal>
+        requires { is_inside self (length file.now) ≡ true }
+        ensures value { Gives (λ r. r.now) result (entry_of self file.now index) }
+        ensures size { IfOk result (λ r. length r.now ≡ self.size) }
+        ensures there { OnOk result (index < self.count) }
+    {
+        if index >= self.count {
+            return Err(Refusal::new(Reason::NoEntry, self.place + self.size * self.count));
+        }
+        let place = self.entry_place(index, file.len() as u64);
+        Ok(&file[place as usize..(place + self.size) as usize])
+    }
+}
+
+/// A table has its entries, each of its size, and they are all of its bytes; a field of an entry is a field of the file.
+#[tactic(auto, using(crate::proofs::Tables::entry_at, crate::proofs::Tables::length_entries, crate::proofs::Tables::concat_entries, crate::proofs::Tables::field_at))]
+pub fn table_law()
+    ensures get { (file : List ℕ) (place size n i : ℕ) → i < n → slice_get (entries file place size n) i ≡ Some (piece file (place + size * i) size) }
+    ensures count { (file : List ℕ) (place size n : ℕ) → length (entries file place size n) ≡ n }
+    ensures bytes { (file : List ℕ) (place size n : ℕ) → concat (entries file place size n) ≡ piece file place (size * n) }
+    ensures field { (file : List ℕ) (place size at : ℕ) (w : Width) → 0 < byte_len w → at + byte_len w ≤ size → field w (piece file place size) at ≡ field w file (place + at) }
+{}
