@@ -2,6 +2,8 @@
 pub mod Fields
 pub mod Refusals
 pub mod Tables
+pub mod Searches
 pub mod Header
 pub mod Sections
 pub mod Section
+pub mod Notes

@@ -1,7 +1,8 @@
 -- One section: its name and its bytes (System V gABI, "Sections", "String Table" and "Section Compression").
-use Rattle.std.specs.Prelude.{ℕ, ◌+◌, ◌-◌, List, length, Bool, not, ◌&&◌, ◌||◌, Option, Some, None, Result, Ok, Err, nat_le, nat_lt, nat_eq, ◌==◌, if◌then◌else◌, bit_and, codes}
+use Rattle.std.specs.Prelude.{ℕ, ◌+◌, ◌-◌, ◌*◌, ◌≤◌, ◌<◌, List, length, Bool, false, not, ◌&&◌, ◌||◌, Option, Some, None, Result, Ok, Err, nat_le, nat_lt, nat_eq, ◌==◌, if◌then◌else◌, bit_and, codes}
 use Rattle.std.specs.List.{position, starts_with}
-use Rattle.elf.specs.declared.refusal.Reason.TheVariants.{Outside, Name, Compressed}
+use Rattle.std.specs.Str.{bytes_eq}
+use Rattle.elf.specs.declared.refusal.Reason.TheVariants.{Outside, Name, Compressed, NoEntry}
 use Rattle.elf.specs.declared.refusal.Refusal.{Refusal}
 use Rattle.elf.specs.declared.section.ElfSection.{ElfSection}
 use Rattle.elf.specs.declared.section.Span.{Span}
@@ -9,7 +10,8 @@ use Rattle.elf.specs.declared.sections.SectionEntry.{SectionEntry}
 use Rattle.elf.specs.declared.sections.Sections.{Sections}
 use Rattle.elf.specs.Fields.{piece, by_class}
 use Rattle.elf.specs.Refusals.{refuse, reason_number, ◌>>=◌}
-use Rattle.elf.specs.Sections.{file_sections, entry_at}
+use Rattle.elf.specs.Searches.{first}
+use Rattle.elf.specs.Sections.{section_size, file_sections, entry_at}
 
 -- SHT_NULL and SHT_NOBITS have no bytes in the file
 abbrev pub is_empty : SectionEntry → Bool
@@ -84,6 +86,10 @@ section_numbers index e name bytes compressed = record {
   compressed = bit compressed;
 }
 
+-- the name lies in the file, and so do the bytes, where there are some
+abbrev pub LiesIn : (size : ℕ) → ElfSection → Type 0
+LiesIn size s = (s.name + s.name_length ≤ size) × (0 < s.length → s.place + s.length ≤ size)
+
 -- the section at an index of a table
 unfoldable pub section_in : List ℕ → Sections → (index : ℕ) → Result ElfSection Refusal
 section_in file t i =
@@ -92,6 +98,27 @@ section_in file t i =
 
 unfoldable pub section_at : List ℕ → (index : ℕ) → Result ElfSection Refusal
 section_at file i = file_sections file >>= λ t. section_in file t i
+
+-- whether the section at an index has this name; one whose name cannot be read has none
+abbrev pub holds : Result Bool Refusal → Bool
+holds (Ok b) = b
+holds (Err r) = false
+
+unfoldable pub has_name : List ℕ → Sections → (wanted : List ℕ) → (index : ℕ) → Bool
+has_name file t wanted i =
+    holds (entry_at file t i >>= λ e. name_of file t e >>= λ n. Ok (bytes_eq (piece file n.place n.length) wanted))
+
+-- the section found; else 107 at the table's end
+abbrev pub found_in : List ℕ → Sections → Option ℕ → Result ElfSection Refusal
+found_in file t None = refuse NoEntry (t.place + section_size t.«class» * t.count)
+found_in file t (Some i) = section_in file t i
+
+-- the first section of a name
+unfoldable pub named_in : List ℕ → Sections → (wanted : List ℕ) → Result ElfSection Refusal
+named_in file t wanted = found_in file t (first (has_name file t wanted) t.count 0)
+
+unfoldable pub section_named : List ℕ → (wanted : List ℕ) → Result ElfSection Refusal
+section_named file wanted = file_sections file >>= λ t. named_in file t wanted
 
 abbrev pub refused_section : Refusal → ElfSection
 refused_section r = record {

@@ -4,6 +4,7 @@
 mod class;
 mod fields;
 mod header;
+mod notes;
 mod refusal;
 mod section;
 mod sections;
@@ -11,7 +12,8 @@ mod table;
 
 pub use class::Class;
 pub use header::{ElfHeader, unwind_elf_header};
+pub use notes::{ElfNote, unwind_elf_note, unwind_elf_note_named};
 pub use refusal::{Reason, Refusal};
-pub use section::{ElfSection, unwind_elf_section};
+pub use section::{ElfSection, unwind_elf_section, unwind_elf_section_named};
 pub use sections::{ElfSections, Sections, unwind_elf_sections};
 pub use table::{Table, table_law};

@@ -1,10 +1,9 @@
 //! One section: its entry, its name and its bytes (gABI, "Sections" and "String Table").
 
-ghost use Rattle.std.specs.Prelude.{◌≡◌, ◌+◌, ◌≤◌, length, true, false, IfOk};
-ghost use Rattle.std.specs.List.{position};
+ghost use Rattle.std.specs.Prelude.{◌≡◌, ◌+◌, ◌≤◌, ◌<◌, length, true, IfOk};
 ghost use Rattle.elf.specs.Fields.{piece};
-ghost use Rattle.elf.specs.Refusals.{Gives};
-ghost use Rattle.elf.specs.Section.{is_empty, has_compressed_flag, is_compressed, end_of, bytes_of, plain_bytes_of, name_in, strings_of, name_of, section_numbers, section_in, section_at, refused_section, section_answer};
+ghost use Rattle.elf.specs.Section.{is_empty, has_compressed_flag, is_compressed, end_of, bytes_of, plain_bytes_of, name_in, strings_of, name_of, section_numbers, LiesIn, section_in, section_at, has_name, named_in, section_named, refused_section, section_answer};
+ghost use Rattle.elf.specs.Searches.{first};
 ghost use Rattle.elf.specs.Sections.{section_size, table_in};
 ghost use Rattle.elf.specs.Tables.{is_inside};
 
@@ -65,6 +64,7 @@ impl Sections {
         requires { entry.at + section_size self.class ≤ length file.now }
         ensures value { result ≡ bytes_of file.now self entry }
         ensures inside { IfOk result (λ s. s.place + s.length ≤ length file.now) }
+        ensures place { IfOk result (λ s. 0 < s.length → s.place ≡ entry.place) }
     {
         if entry.is_empty() {
             return Ok(Span {
@@ -108,7 +108,7 @@ impl Sections {
 }
 
 /// Where the first 0 is.
-fn end_of(text: &[u8]) -> Option<usize>
+pub fn end_of(text: &[u8]) -> Option<usize>
     ensures { result ≡ end_of text.now }
 {
     text.iter().position(|b| *b == 0)
@@ -214,6 +214,7 @@ impl Sections {
     pub fn section(self, file: &[u8], index: u64) -> Result<ElfSection, Refusal>
         requires { is_inside (table_in self) (length file.now) ≡ true }
         ensures value { result ≡ section_in file.now self index }
+        ensures inside { IfOk result (LiesIn (length file.now)) }
     {
         let entry = self.entry(file, index)?;
         let name = self.name(file, entry)?;
@@ -226,9 +227,63 @@ impl Sections {
 #[tactic(auto, unfolding(crate::specs::Section::section_at))]
 fn section_at(file: &[u8], index: u64) -> Result<ElfSection, Refusal>
     ensures value { result ≡ section_at file.now index }
+    ensures inside { IfOk result (LiesIn (length file.now)) }
 {
     let sections = file_sections(file)?;
     sections.section(file, index)
+}
+
+impl Sections {
+    /// Whether the section at an index has this name.
+    #[tactic(auto, unfolding(crate::specs::Section::has_name))]
+    fn has_name(self, file: &[u8], wanted: &[u8], index: u64) -> bool
+        requires { is_inside (table_in self) (length file.now) ≡ true }
+        ensures { result ≡ has_name file.now self wanted.now index }
+    {
+        let Ok(entry) = self.entry(file, index) else {
+            return false;
+        };
+        match self.name(file, entry) {
+            Ok(name) => name.of(file) == wanted,
+            Err(_) => false,
+        }
+    }
+
+    /// The index of the first section of a name.
+    #[tactic(auto, using(crate::proofs::Searches::first_here, crate::proofs::Searches::first_later, crate::proofs::Searches::first_none))]
+    fn position(self, file: &[u8], wanted: &[u8]) -> Option<u64>
+        requires { is_inside (table_in self) (length file.now) ≡ true }
+        ensures { result ≡ first (has_name file.now self wanted.now) self.count 0 }
+    {
+        for index in 0..self.count {
+            if self.has_name(file, wanted, index) {
+                return Some(index);
+            }
+        }
+        None
+    }
+
+    /// The first section of a name.
+    #[tactic(auto, unfolding(crate::specs::Section::named_in))]
+    fn named(self, file: &[u8], wanted: &[u8]) -> Result<ElfSection, Refusal>
+        requires { is_inside (table_in self) (length file.now) ≡ true }
+        ensures value { result ≡ named_in file.now self wanted.now }
+        ensures inside { IfOk result (LiesIn (length file.now)) }
+    {
+        match self.position(file, wanted) {
+            Some(index) => self.section(file, index),
+            None => Err(Refusal::new(Reason::NoEntry, self.table().end(file.len() as u64))),
+        }
+    }
+}
+
+#[tactic(auto, unfolding(crate::specs::Section::section_named))]
+fn section_named(file: &[u8], wanted: &[u8]) -> Result<ElfSection, Refusal>
+    ensures value { result ≡ section_named file.now wanted.now }
+    ensures inside { IfOk result (LiesIn (length file.now)) }
+{
+    let sections = file_sections(file)?;
+    sections.named(file, wanted)
 }
 
 fn refused(refusal: Refusal) -> ElfSection
@@ -244,9 +299,23 @@ fn refused(refusal: Refusal) -> ElfSection
 /// The section at an index, or a refusal by 101 to 107.
 #[unsafe(no_mangle)]
 pub extern "C" fn unwind_elf_section(file: &[u8], index: u64) -> ElfSection
-    ensures { result ≡ section_answer (section_at file.now index) }
+    ensures value { result ≡ section_answer (section_at file.now index) }
+    // Its name and its bytes can be read where it says, also after a refusal.
+    ensures inside { LiesIn (length file.now) result }
 {
     match section_at(file, index) {
+        Ok(section) => section,
+        Err(refusal) => refused(refusal),
+    }
+}
+
+/// The first section of a name, or a refusal by 101 to 107. A section whose name cannot be read is passed over.
+#[unsafe(no_mangle)]
+pub extern "C" fn unwind_elf_section_named(file: &[u8], name: &[u8]) -> ElfSection
+    ensures value { result ≡ section_answer (section_named file.now name.now) }
+    ensures inside { LiesIn (length file.now) result }
+{
+    match section_named(file, name) {
         Ok(section) => section,
         Err(refusal) => refused(refusal),
     }

@@ -28,6 +28,14 @@ impl Table {
         }
     }
 
+    /// Where a table that lies in a file ends.
+    pub fn end(self, len: u64) -> u64
+        requires { is_inside self len ≡ true }
+        ensures { result ≡ self.place + self.size * self.count }
+    {
+        self.place + self.size * self.count
+    }
+
     /// Where the entry at an index of a table that lies in a file stands.
     pub fn entry_place(self, index: u64, len: u64) -> u64
         requires inside { is_inside self len ≡ true }
@@ -47,7 +55,7 @@ impl Table {
         ensures there { OnOk result (index < self.count) }
     {
         if index >= self.count {
-            return Err(Refusal::new(Reason::NoEntry, self.place + self.size * self.count));
+            return Err(Refusal::new(Reason::NoEntry, self.end(file.len() as u64)));
         }
         let place = self.entry_place(index, file.len() as u64);
         Ok(&file[place as usize..(place + self.size) as usize])
