@@ -7,3 +7,4 @@ pub mod Header
 pub mod Sections
 pub mod Section
 pub mod Notes
+pub mod Segments

@@ -8,6 +8,7 @@ mod notes;
 mod refusal;
 mod section;
 mod sections;
+mod segments;
 mod table;
 
 pub use class::Class;
@@ -16,4 +17,5 @@ pub use notes::{ElfNote, unwind_elf_note, unwind_elf_note_named};
 pub use refusal::{Reason, Refusal};
 pub use section::{ElfSection, unwind_elf_section, unwind_elf_section_named};
 pub use sections::{ElfSections, Sections, unwind_elf_sections};
+pub use segments::{ElfSegment, ElfSegments, unwind_elf_segment, unwind_elf_segments};
 pub use table::{Table, table_law};

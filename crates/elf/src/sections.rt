@@ -41,7 +41,7 @@ impl Sections {
     }
 }
 
-fn shoff(class: Class) -> usize
+pub fn shoff(class: Class) -> usize
     ensures { result ≡ shoff class }
 {
     class.pick(32, 40)
