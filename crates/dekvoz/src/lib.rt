@@ -6,6 +6,7 @@ pub mod along;
 pub mod arm64_records_read;
 pub mod arm64_written;
 pub mod fields;
+pub mod files;
 pub mod frames;
 pub mod machine;
 pub mod placed;

@@ -41,8 +41,8 @@ note_numbers eight file place end = record {
 }
 
 -- name and text lie in front of an end, and so does the next note
-abbrev pub LiesIn : (size : ℕ) → ElfNote → Type 0
-LiesIn size n = (n.name + n.name_length ≤ size) × (n.text + n.text_length ≤ size) × (n.next ≤ size)
+abbrev pub NoteLiesIn : (size : ℕ) → ElfNote → Type 0
+NoteLiesIn size n = (n.name + n.name_length ≤ size) × (n.text + n.text_length ≤ size) × (n.next ≤ size)
 
 -- the note at a place in front of an end; the last one may lack its padding
 unfoldable pub note_in : List ℕ → (place end : ℕ) → (eight : Bool) → Result ElfNote Refusal

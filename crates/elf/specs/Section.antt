@@ -87,8 +87,8 @@ section_numbers index e name bytes compressed = record {
 }
 
 -- the name lies in the file, and so do the bytes, where there are some
-abbrev pub LiesIn : (size : ℕ) → ElfSection → Type 0
-LiesIn size s = (s.name + s.name_length ≤ size) × (0 < s.length → s.place + s.length ≤ size)
+abbrev pub SectionLiesIn : (size : ℕ) → ElfSection → Type 0
+SectionLiesIn size s = (s.name + s.name_length ≤ size) × (0 < s.length → s.place + s.length ≤ size)
 
 -- the section at an index of a table
 unfoldable pub section_in : List ℕ → Sections → (index : ℕ) → Result ElfSection Refusal

@@ -70,8 +70,8 @@ abbrev pub segments_answer : List ℕ → ElfSegments
 segments_answer file = segments_or (file_segments file)
 
 -- the bytes that a file has of a segment
-abbrev pub LiesIn : (size : ℕ) → ElfSegment → Type 0
-LiesIn size s = 0 < s.length → s.place + s.length ≤ size
+abbrev pub SegmentLiesIn : (size : ℕ) → ElfSegment → Type 0
+SegmentLiesIn size s = 0 < s.length → s.place + s.length ≤ size
 
 -- what an entry says in a file of a size: Elf32_Phdr and Elf64_Phdr; a file may be cut off, and has the rest
 abbrev pub segment_in : Class → (index size : ℕ) → List ℕ → ElfSegment

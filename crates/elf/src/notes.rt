@@ -2,7 +2,7 @@
 
 ghost use Rattle.std.specs.Prelude.{◌≡◌, ◌+◌, ◌-◌, ◌≤◌, ◌<◌, ◌^◌, length, IfOk};
 ghost use Rattle.elf.specs.Fields.{piece};
-ghost use Rattle.elf.specs.Notes.{padded, is_padded_to_eight, name_length, note_numbers, LiesIn, note_in, is_wanted, first_note, note_at, note_named, refused_note, note_answer};
+ghost use Rattle.elf.specs.Notes.{padded, is_padded_to_eight, name_length, note_numbers, NoteLiesIn, note_in, is_wanted, first_note, note_at, note_named, refused_note, note_answer};
 
 use crate::fields::u32_at;
 use crate::refusal::{Reason, Refusal};
@@ -30,7 +30,11 @@ fn padded(eight: bool, size: u64) -> u64
     ensures least { size ≤ result }
     ensures most { result ≤ size + 7 }
 {
-    if eight { (size + 7) / 8 * 8 } else { (size + 3) / 4 * 4 }
+    if eight {
+        (size + 7) / 8 * 8
+    } else {
+        (size + 3) / 4 * 4
+    }
 }
 
 /// Whether parts of notes are padded to 8 bytes, by the alignment that their section or segment tells.
@@ -61,7 +65,7 @@ fn note_in(file: &[u8], place: u64, end: u64, eight: bool) -> Result<ElfNote, Re
     requires inside { end ≤ length file.now }
     requires before { place ≤ end }
     ensures value { result ≡ note_in file.now place end eight }
-    ensures inside { IfOk result (LiesIn end) }
+    ensures inside { IfOk result (NoteLiesIn end) }
 {
     if place == end {
         return Err(Refusal::new(Reason::NoEntry, place));
@@ -119,7 +123,7 @@ fn first_note(
     requires inside { end ≤ length file.now }
     requires before { place ≤ end }
     ensures value { result ≡ first_note file.now name.now kind end eight (end - place) place }
-    ensures inside { IfOk result (LiesIn end) }
+    ensures inside { IfOk result (NoteLiesIn end) }
 {
     let mut at = place;
     for i in 0..end - place {
@@ -139,7 +143,7 @@ fn first_note(
 #[tactic(auto, unfolding(crate::specs::Notes::note_at))]
 fn note_at(file: &[u8], place: u64, end: u64, align: u64) -> Result<ElfNote, Refusal>
     ensures value { result ≡ note_at file.now place end align }
-    ensures inside { IfOk result (LiesIn (length file.now)) }
+    ensures inside { IfOk result (NoteLiesIn (length file.now)) }
 {
     if place > end || end > file.len() as u64 {
         return Err(Refusal::new(Reason::Outside, place));
@@ -158,7 +162,7 @@ fn note_named(
     kind: u64,
 ) -> Result<ElfNote, Refusal>
     ensures value { result ≡ note_named file.now place end align name.now kind }
-    ensures inside { IfOk result (LiesIn (length file.now)) }
+    ensures inside { IfOk result (NoteLiesIn (length file.now)) }
 {
     if place > end || end > file.len() as u64 {
         return Err(Refusal::new(Reason::Outside, place));
@@ -182,7 +186,7 @@ fn refused(refusal: Refusal) -> ElfNote
 #[unsafe(no_mangle)]
 pub extern "C" fn unwind_elf_note(file: &[u8], place: u64, end: u64, align: u64) -> ElfNote
     ensures value { result ≡ note_answer (note_at file.now place end align) }
-    ensures inside { LiesIn (length file.now) result }
+    ensures inside { NoteLiesIn (length file.now) result }
 {
     match note_at(file, place, end, align) {
         Ok(note) => note,
@@ -202,7 +206,7 @@ pub extern "C" fn unwind_elf_note_named(
     kind: u64,
 ) -> ElfNote
     ensures value { result ≡ note_answer (note_named file.now place end align name.now kind) }
-    ensures inside { LiesIn (length file.now) result }
+    ensures inside { NoteLiesIn (length file.now) result }
 {
     match note_named(file, place, end, align, name, kind) {
         Ok(note) => note,

@@ -2,7 +2,7 @@
 
 ghost use Rattle.std.specs.Prelude.{◌≡◌, ◌+◌, ◌≤◌, ◌<◌, length, true, IfOk};
 ghost use Rattle.elf.specs.Fields.{piece};
-ghost use Rattle.elf.specs.Section.{is_empty, has_compressed_flag, is_compressed, end_of, bytes_of, plain_bytes_of, name_in, strings_of, name_of, section_numbers, LiesIn, section_in, section_at, has_name, named_in, section_named, refused_section, section_answer};
+ghost use Rattle.elf.specs.Section.{is_empty, has_compressed_flag, is_compressed, end_of, bytes_of, plain_bytes_of, name_in, strings_of, name_of, section_numbers, SectionLiesIn, section_in, section_at, has_name, named_in, section_named, refused_section, section_answer};
 ghost use Rattle.elf.specs.Searches.{first};
 ghost use Rattle.elf.specs.Sections.{section_size, table_in};
 ghost use Rattle.elf.specs.Tables.{is_inside};
@@ -214,7 +214,7 @@ impl Sections {
     pub fn section(self, file: &[u8], index: u64) -> Result<ElfSection, Refusal>
         requires { is_inside (table_in self) (length file.now) ≡ true }
         ensures value { result ≡ section_in file.now self index }
-        ensures inside { IfOk result (LiesIn (length file.now)) }
+        ensures inside { IfOk result (SectionLiesIn (length file.now)) }
     {
         let entry = self.entry(file, index)?;
         let name = self.name(file, entry)?;
@@ -227,7 +227,7 @@ impl Sections {
 #[tactic(auto, unfolding(crate::specs::Section::section_at))]
 fn section_at(file: &[u8], index: u64) -> Result<ElfSection, Refusal>
     ensures value { result ≡ section_at file.now index }
-    ensures inside { IfOk result (LiesIn (length file.now)) }
+    ensures inside { IfOk result (SectionLiesIn (length file.now)) }
 {
     let sections = file_sections(file)?;
     sections.section(file, index)
@@ -268,7 +268,7 @@ impl Sections {
     fn named(self, file: &[u8], wanted: &[u8]) -> Result<ElfSection, Refusal>
         requires { is_inside (table_in self) (length file.now) ≡ true }
         ensures value { result ≡ named_in file.now self wanted.now }
-        ensures inside { IfOk result (LiesIn (length file.now)) }
+        ensures inside { IfOk result (SectionLiesIn (length file.now)) }
     {
         match self.position(file, wanted) {
             Some(index) => self.section(file, index),
@@ -280,7 +280,7 @@ impl Sections {
 #[tactic(auto, unfolding(crate::specs::Section::section_named))]
 fn section_named(file: &[u8], wanted: &[u8]) -> Result<ElfSection, Refusal>
     ensures value { result ≡ section_named file.now wanted.now }
-    ensures inside { IfOk result (LiesIn (length file.now)) }
+    ensures inside { IfOk result (SectionLiesIn (length file.now)) }
 {
     let sections = file_sections(file)?;
     sections.named(file, wanted)
@@ -301,7 +301,7 @@ fn refused(refusal: Refusal) -> ElfSection
 pub extern "C" fn unwind_elf_section(file: &[u8], index: u64) -> ElfSection
     ensures value { result ≡ section_answer (section_at file.now index) }
     // Its name and its bytes can be read where it says, also after a refusal.
-    ensures inside { LiesIn (length file.now) result }
+    ensures inside { SectionLiesIn (length file.now) result }
 {
     match section_at(file, index) {
         Ok(section) => section,
@@ -313,7 +313,7 @@ pub extern "C" fn unwind_elf_section(file: &[u8], index: u64) -> ElfSection
 #[unsafe(no_mangle)]
 pub extern "C" fn unwind_elf_section_named(file: &[u8], name: &[u8]) -> ElfSection
     ensures value { result ≡ section_answer (section_named file.now name.now) }
-    ensures inside { LiesIn (length file.now) result }
+    ensures inside { SectionLiesIn (length file.now) result }
 {
     match section_named(file, name) {
         Ok(section) => section,

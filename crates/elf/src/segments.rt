@@ -2,7 +2,7 @@
 
 ghost use Rattle.std.specs.Prelude.{◌≡◌, ◌-◌, ◌≤◌, length, min, true, IfOk};
 ghost use Rattle.elf.specs.Header.{header_size};
-ghost use Rattle.elf.specs.Segments.{segment_size, phoff, table_in, first_info, count_of, inside, segments_of, file_segments, segments_answer, segments_numbers, refused_segments, LiesIn, segment_in, segment_at, refused_segment, segment_answer};
+ghost use Rattle.elf.specs.Segments.{segment_size, phoff, table_in, first_info, count_of, inside, segments_of, file_segments, segments_answer, segments_numbers, refused_segments, SegmentLiesIn, segment_in, segment_at, refused_segment, segment_answer};
 ghost use Rattle.elf.specs.Tables.{is_inside};
 
 use crate::class::Class;
@@ -188,7 +188,7 @@ fn held(place: u64, size: u64, len: u64) -> u64
 fn segment_in(class: Class, index: u64, len: u64, entry: &[u8]) -> ElfSegment
     requires { length entry.now ≡ segment_size class }
     ensures value { result ≡ segment_in class index len entry.now }
-    ensures inside { LiesIn len result }
+    ensures inside { SegmentLiesIn len result }
 {
     let place = word_at(class, entry, class.pick(4, 8));
     let size = word_at(class, entry, class.pick(16, 32));
@@ -211,7 +211,7 @@ fn segment_in(class: Class, index: u64, len: u64, entry: &[u8]) -> ElfSegment
 #[tactic(auto, unfolding(crate::specs::Segments::segment_at))]
 fn segment_at(file: &[u8], index: u64) -> Result<ElfSegment, Refusal>
     ensures value { result ≡ segment_at file.now index }
-    ensures inside { IfOk result (LiesIn (length file.now)) }
+    ensures inside { IfOk result (SegmentLiesIn (length file.now)) }
 {
     let segments = file_segments(file)?;
     let entry = segments.table().get(file, index)?;
@@ -233,7 +233,7 @@ fn refused_segment(refusal: Refusal) -> ElfSegment
 pub extern "C" fn unwind_elf_segment(file: &[u8], index: u64) -> ElfSegment
     ensures value { result ≡ segment_answer (segment_at file.now index) }
     // The bytes that the file has of it can be read where it says, also after a refusal.
-    ensures inside { LiesIn (length file.now) result }
+    ensures inside { SegmentLiesIn (length file.now) result }
 {
     match segment_at(file, index) {
         Ok(segment) => segment,
