@@ -1,15 +1,15 @@
 // The tables of an ELF file, little-endian, of 32 or 64 bits (System V gABI), over its bytes as they are lent.
 #![tactic(auto)]
 
-mod class;
-mod fields;
-mod header;
-mod notes;
-mod refusal;
-mod section;
-mod sections;
-mod segments;
-mod table;
+pub mod class;
+pub mod fields;
+pub mod header;
+pub mod notes;
+pub mod refusal;
+pub mod section;
+pub mod sections;
+pub mod segments;
+pub mod table;
 
 pub use class::Class;
 pub use header::{ElfHeader, unwind_elf_header};
