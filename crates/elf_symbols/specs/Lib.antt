@@ -2,3 +2,4 @@
 pub mod Entries
 pub mod Symbols
 pub mod Relocations
+pub mod Functions

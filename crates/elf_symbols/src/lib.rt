@@ -2,8 +2,10 @@
 #![tactic(auto)]
 
 pub mod entries;
+pub mod functions;
 pub mod relocations;
 pub mod symbols;
 
+pub use functions::unwind_elf_symbol_at;
 pub use relocations::{ElfRelocation, unwind_elf_relocation};
 pub use symbols::{ElfSymbol, unwind_elf_symbol};
