@@ -1,5 +1,5 @@
 -- What the loops over numbers keep.
-use Rattle.std.proofs.Common.{◌≡◌, ℕ, zero, suc, ◌+◌, ◌-◌, ◌<◌, ◌≤◌, Bool, true, false, Some, None, refl, arith}
+use Rattle.std.proofs.Common.{◌≡◌, ℕ, suc, ◌+◌, ◌-◌, ◌<◌, ◌≤◌, Bool, true, false, Some, None, refl, arith}
 use Rattle.elf.specs.Searches.{first}
 
 pub first_here : (p : ℕ → Bool) (count i : ℕ) → i < count → p i ≡ true → first p (count - i) i ≡ Some i

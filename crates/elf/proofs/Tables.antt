@@ -1,6 +1,6 @@
 -- The laws of tables.
-use Rattle.std.proofs.Common.{◌≡◌, ℕ, zero, suc, ◌+◌, ◌*◌, ◌-◌, ◌<◌, ◌≤◌, true, List, ◌++◌, length, take, drop, get_or, Some, None, refl, ap, arith}
-use Rattle.std.specs.Prelude.{Ok, Err, slice_get, slice_index, slice_range}
+use Rattle.std.proofs.Common.{◌≡◌, ℕ, zero, suc, ◌+◌, ◌*◌, ◌-◌, ◌<◌, ◌≤◌, List, ◌++◌, length, take, drop, get_or, Some, None, refl, ap, arith}
+use Rattle.std.specs.Prelude.{Ok, slice_get, slice_index, slice_range}
 use Rattle.std.specs.List.{concat}
 use Rattle.std.specs.Int.{Width, byte_len, byte_worth, sum_through}
 use Rattle.std.proofs.Math.Seq.{take-add}
@@ -9,7 +9,7 @@ use Rattle.elf.specs.Fields.{field, piece}
 use Rattle.elf.specs.declared.refusal.Reason.TheVariants.{NoEntry}
 use Rattle.elf.specs.declared.table.Table.{Table}
 use Rattle.elf.specs.Refusals.{refuse}
-use Rattle.elf.specs.Tables.{entries, entry_of, or_none}
+use Rattle.elf.specs.Tables.{entries, entry_of}
 
 pub entry_at : (file : List ℕ) (place size n i : ℕ) → i < n → slice_get (entries file place size n) i ≡ Some (piece file (place + size * i) size)
 unfolding entries

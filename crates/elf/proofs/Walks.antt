@@ -1,6 +1,6 @@
 -- What the loop over notes keeps: `left` is how many more may come.
 use Rattle.std.proofs.Common.{◌≡◌, ℕ, suc, ◌+◌, ◌-◌, ◌<◌, ◌≤◌, Bool, true, false, List, refl, arith}
-use Rattle.std.specs.Prelude.{Result, Ok, Err}
+use Rattle.std.specs.Prelude.{Ok, Err}
 use Rattle.elf.specs.declared.notes.ElfNote.{ElfNote}
 use Rattle.elf.specs.declared.refusal.Reason.TheVariants.{NoEntry}
 use Rattle.elf.specs.declared.refusal.Refusal.{Refusal}

@@ -1,5 +1,5 @@
 -- The section table of a file (System V gABI, "ELF Header", "Sections" and "Extended section numbering").
-use Rattle.std.specs.Prelude.{ℕ, ◌+◌, List, length, Bool, not, ◌||◌, Result, Ok, Err, nat_lt, ◌==◌, if◌then◌else◌}
+use Rattle.std.specs.Prelude.{ℕ, ◌+◌, List, length, not, ◌||◌, Result, Ok, Err, nat_lt, ◌==◌, if◌then◌else◌}
 use Rattle.std.specs.Int.{w16, w32}
 use Rattle.elf.specs.declared.«class».Class.{Class}
 use Rattle.elf.specs.declared.refusal.Reason.TheVariants.{Outside, Name, EntrySize}

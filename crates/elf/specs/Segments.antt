@@ -1,5 +1,5 @@
 -- The segments of a file (System V gABI, "ELF Header" and "Program Header").
-use Rattle.std.specs.Prelude.{ℕ, ◌+◌, ◌-◌, ◌≤◌, ◌<◌, List, length, Bool, not, ◌||◌, Result, Ok, Err, ◌==◌, if◌then◌else◌, min}
+use Rattle.std.specs.Prelude.{ℕ, ◌+◌, ◌-◌, ◌≤◌, ◌<◌, List, length, not, ◌||◌, Result, Ok, Err, ◌==◌, if◌then◌else◌, min}
 use Rattle.std.specs.Int.{w16, w32}
 use Rattle.elf.specs.declared.«class».Class.{Class}
 use Rattle.elf.specs.declared.refusal.Reason.TheVariants.{Outside, EntrySize}

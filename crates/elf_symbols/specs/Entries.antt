@@ -1,8 +1,7 @@
 -- A section as a table of entries of one size (System V gABI, "Sections": sh_entsize).
-use Rattle.std.specs.Prelude.{ℕ, ◌+◌, ◌/◌, ◌%◌, List, Bool, not, Result, Ok, Err, ◌==◌, if◌then◌else◌}
+use Rattle.std.specs.Prelude.{ℕ, ◌+◌, ◌/◌, ◌%◌, List, not, Result, Ok, ◌==◌, if◌then◌else◌}
 use Rattle.elf.specs.declared.refusal.Reason.TheVariants.{EntrySize}
 use Rattle.elf.specs.declared.refusal.Refusal.{Refusal}
-use Rattle.elf.specs.declared.section.Span.{Span}
 use Rattle.elf.specs.declared.sections.SectionEntry.{SectionEntry}
 use Rattle.elf.specs.declared.sections.Sections.{Sections}
 use Rattle.elf.specs.declared.table.Table.{Table}

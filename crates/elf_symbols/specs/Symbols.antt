@@ -1,5 +1,5 @@
 -- The symbols of a section (System V gABI, "Symbol Table").
-use Rattle.std.specs.Prelude.{◌≡◌, ℕ, ◌+◌, ◌/◌, ◌%◌, ◌≤◌, List, length, Bool, true, not, ◌||◌, Result, Ok, Err, slice_index, ◌==◌, if◌then◌else◌}
+use Rattle.std.specs.Prelude.{◌≡◌, ℕ, ◌+◌, ◌/◌, ◌%◌, ◌≤◌, List, Bool, true, not, ◌||◌, Result, Ok, Err, slice_index, ◌==◌, if◌then◌else◌}
 use Rattle.std.specs.Int.{w16, w32}
 use Rattle.elf.specs.declared.«class».Class.{Class}
 use Rattle.elf.specs.declared.refusal.Reason.TheVariants.{Kind}

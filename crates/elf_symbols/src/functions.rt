@@ -48,13 +48,21 @@ impl SymbolEntry {
     fn start(self, machine: u16) -> u64
         ensures { result ≡ start_of machine self }
     {
-        if machine == EM_ARM { self.value - self.value % 2 } else { self.value }
+        if machine == EM_ARM {
+            self.value - self.value % 2
+        } else {
+            self.value
+        }
     }
 
     fn stands_in(self, section: u64) -> bool
         ensures { result ≡ stands_in section self }
     {
-        if section == 0 { self.section != 0 } else { u64::from(self.section) == section }
+        if section == 0 {
+            self.section != 0
+        } else {
+            u64::from(self.section) == section
+        }
     }
 }
 
@@ -87,7 +95,13 @@ fn covers(file: &[u8], sections: Sections, entry: SymbolEntry, place: Place) -> 
 
 /// The symbol at an index, where it is a function's that covers the place.
 #[tactic(auto, unfolding(crate::specs::Functions::covering))]
-fn covering(file: &[u8], sections: Sections, symbols: Symbols, place: Place, index: u64) -> Option<Function>
+fn covering(
+    file: &[u8],
+    sections: Sections,
+    symbols: Symbols,
+    place: Place,
+    index: u64,
+) -> Option<Function>
     requires sections { is_inside (table_in sections) (length file.now) ≡ true }
     requires symbols { SymbolsLieIn (length file.now) symbols }
     ensures { result ≡ covering file.now sections symbols place index }
@@ -95,7 +109,10 @@ fn covering(file: &[u8], sections: Sections, symbols: Symbols, place: Place, ind
     let Ok(entry) = symbols.entry(file, index) else {
         return None;
     };
-    if entry.is_function() && entry.stands_in(place.section) && covers(file, sections, entry, place) {
+    if entry.is_function()
+        && entry.stands_in(place.section)
+        && covers(file, sections, entry, place)
+    {
         Some(Function {
             index,
             start: entry.start(place.machine),
@@ -117,7 +134,11 @@ impl Function {
         if self.size != 0 && new.size == 0 {
             return false;
         }
-        if self.start == new.start { new.size < self.size } else { self.start < new.start }
+        if self.start == new.start {
+            new.size < self.size
+        } else {
+            self.start < new.start
+        }
     }
 }
 
@@ -128,7 +149,13 @@ fn nearer(found: Option<Function>, new: Option<Function>) -> Option<Function>
         None => new,
         Some(old) => match new {
             None => Some(old),
-            Some(new) => { if old.is_nearer(new) { Some(new) } else { Some(old) } }
+            Some(new) => {
+                if old.is_nearer(new) {
+                    Some(new)
+                } else {
+                    Some(old)
+                }
+            }
         },
     }
 }
@@ -148,7 +175,12 @@ fn nearest(file: &[u8], sections: Sections, symbols: Symbols, place: Place) -> O
 }
 
 #[tactic(auto, unfolding(crate::specs::Functions::function_in))]
-fn function_in(file: &[u8], sections: Sections, symbols: Symbols, place: Place) -> Result<ElfSymbol, Refusal>
+fn function_in(
+    file: &[u8],
+    sections: Sections,
+    symbols: Symbols,
+    place: Place,
+) -> Result<ElfSymbol, Refusal>
     requires sections { is_inside (table_in sections) (length file.now) ≡ true }
     requires symbols { SymbolsLieIn (length file.now) symbols }
     ensures value { result ≡ function_in file.now sections symbols place }
@@ -185,7 +217,12 @@ fn function_at(file: &[u8], table: u64, section: u64, address: u64) -> Result<El
 /// The function symbol of a table that covers an address, of those in a section unless that is 0: one with a size before one without,
 /// which covers up to its section's end; then the one that begins last; then the shortest; then the first. Or a refusal by 101 to 108.
 #[unsafe(no_mangle)]
-pub extern "C" fn unwind_elf_symbol_at(file: &[u8], table: u64, section: u64, address: u64) -> ElfSymbol
+pub extern "C" fn unwind_elf_symbol_at(
+    file: &[u8],
+    table: u64,
+    section: u64,
+    address: u64,
+) -> ElfSymbol
     ensures value { result ≡ symbol_answer (function_at file.now table section address) }
     ensures inside { SymbolLiesIn (length file.now) result }
 {

@@ -67,7 +67,12 @@ fn relocations_of(file: &[u8], sections: Sections, section: u64) -> Result<Reloc
 {
     let entry = sections.entry(file, section)?;
     let addends = has_addends(entry)?;
-    let table = entries_in(file, sections, entry, relocation_size(sections.class, addends))?;
+    let table = entries_in(
+        file,
+        sections,
+        entry,
+        relocation_size(sections.class, addends),
+    )?;
     Ok(Relocations {
         class: sections.class,
         addends,
@@ -120,8 +125,16 @@ impl Relocations {
             at: 0,
             index,
             place: word_at(self.class, entry, 0),
-            symbol: if wide { info / 0x1_0000_0000 } else { info / 256 },
-            kind: if wide { info % 0x1_0000_0000 } else { info % 256 },
+            symbol: if wide {
+                info / 0x1_0000_0000
+            } else {
+                info / 256
+            },
+            kind: if wide {
+                info % 0x1_0000_0000
+            } else {
+                info % 256
+            },
             addend: self.addend(entry),
             explicit: u64::from(self.addends),
         }

@@ -109,7 +109,11 @@ impl Symbols {
     {
         let table = self.table();
         let entry = table.get(file, index)?;
-        Ok(entry_in(self.class, table.entry_place(index, file.len() as u64), entry))
+        Ok(entry_in(
+            self.class,
+            table.entry_place(index, file.len() as u64),
+            entry,
+        ))
     }
 }
 
