@@ -16,7 +16,7 @@
 
 #include "../include/dekvoz.h"
 
-enum { NOTE_SECTION = 7, NOTE_SEGMENT = 4 };
+enum { SYMTAB = 2, RELA = 4, NOTE_SECTION = 7, REL = 9, DYNSYM = 11, NOTE_SEGMENT = 4, FUNC = 2, RELOCATABLE = 1 };
 
 static const uint8_t *file;
 static size_t size;
@@ -41,7 +41,33 @@ static void notes(uint64_t place, uint64_t length, uint64_t align) {
     }
 }
 
-static void sections(void) {
+/* The function at a symbol's first and last byte and behind it. */
+static void functions(uint64_t table, const unwind_elf_symbol_read *s, uint64_t kind) {
+    uint64_t section = kind == RELOCATABLE ? s->section : 0, places[] = {s->value, s->value + s->size - 1, s->value + s->size};
+    for (int i = 0; i < 3; i++) {
+        unwind_elf_symbol_read f = unwind_elf_symbol_at(file, size, table, section, places[i]);
+        printf("at %" PRIu64 " %" PRIu64 " %" PRIu64 "\n", f.number, f.at, f.index);
+    }
+}
+
+/* Some two hundred entries of a table, and one past the last; of the functions some eight. */
+static void entries(const unwind_elf_section_read *t, uint64_t kind) {
+    uint64_t count = t->entry_size ? t->length / t->entry_size : 0, step = count / 200 + 1, asked = 0;
+    for (uint64_t i = 0; i <= count; i = i < count && i + step > count ? count : i + step) {
+        if (t->kind == RELA || t->kind == REL) {
+            unwind_elf_relocation_read r = unwind_elf_relocation(file, size, t->index, i);
+            SAY("relocation", r);
+            if (r.number) return;
+            continue;
+        }
+        unwind_elf_symbol_read s = unwind_elf_symbol(file, size, t->index, i);
+        SAY("symbol", s);
+        if (s.number && s.number != 104) return;
+        if (s.number == 0 && s.kind == FUNC && asked++ % 25 == 0) functions(t->index, &s, kind);
+    }
+}
+
+static void sections(uint64_t kind) {
     unwind_elf_sections_read t = unwind_elf_sections(file, size);
     SAY("sections", t);
     uint64_t count = t.count < 200000 ? t.count : 200000;
@@ -54,6 +80,7 @@ static void sections(void) {
             printf("named %" PRIu64 " %" PRIu64 " %" PRIu64 "\n", named.number, named.at, named.index);
         }
         if (s.kind == NOTE_SECTION) notes(s.place, s.length, s.align);
+        if (s.kind == SYMTAB || s.kind == DYNSYM || s.kind == RELA || s.kind == REL) entries(&s, kind);
     }
 }
 
@@ -70,7 +97,7 @@ static void segments(void) {
 static void all(void) {
     unwind_elf_header_read h = unwind_elf_header(file, size);
     SAY("header", h);
-    sections();
+    sections(h.kind);
     segments();
     printf(".\n");
 }

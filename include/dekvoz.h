@@ -419,8 +419,10 @@ unwind_written unwind_relaxed_debug_frame_of(
  *   101 no ELF file                       102 a class, a byte order or a version that is not known
  *   103 the header, a table, a section    104 a name does not lie in its strings
  *       or a note does not lie in the     105 an entry size other than the class's
- *       file                              107 there is no such entry, or none of that name
- *   109 an alignment of notes that is neither 4 nor 8 */
+ *       file                              106 a table in a section that is compressed
+ *   107 there is no such entry            108 a section of another kind than is asked for
+ *   109 an alignment of notes that is neither 4 nor 8
+ * In each, `index` is the one that was asked for or found, and places are those of the file. */
 typedef struct {
     uint64_t number, at, class_bits, kind, machine, flags, entry;
 } unwind_elf_header_read;
@@ -473,6 +475,29 @@ unwind_elf_note_read unwind_elf_note(const uint8_t *file, size_t file_n, uint64_
 /* The first note of a name, without its 0, and a kind from a place on. */
 unwind_elf_note_read unwind_elf_note_named(
     const uint8_t *file, size_t file_n, uint64_t place, uint64_t end, uint64_t align, const uint8_t *name, size_t name_n, uint64_t kind);
+
+/* A symbol. kind: STT_ (1 object, 2 function); binding: STB_ (0 local, 1 global, 2 weak); visibility: STV_; section: the index of its
+ * section (0 undefined, 0xfff1 absolute, 0xfff2 common, 0xffff where the index stands in a section of kind 18). */
+typedef struct {
+    uint64_t number, at, index, name, name_length, value, size, kind, binding, visibility, section;
+} unwind_elf_symbol_read;
+
+/* The symbol at an index of a section of kind 2 or 11; 107 past the last one. */
+unwind_elf_symbol_read unwind_elf_symbol(const uint8_t *file, size_t file_n, uint64_t section, uint64_t index);
+
+/* The function symbol of the table in a section that covers an address, of those whose section is the one given, unless that is 0: one
+ * with a size before one without, which covers up to its section's end; then the one that begins last, then the shortest, then the
+ * first. On ARM the Thumb mark of a value does not count. In a relocatable file addresses are those in the given section. */
+unwind_elf_symbol_read unwind_elf_symbol_at(const uint8_t *file, size_t file_n, uint64_t table, uint64_t section, uint64_t address);
+
+/* A relocation. symbol: its index in the table that the section's link names. addend: 64-bit two's complement, and has_addend 1, where
+ * the entry has one; else both are 0. */
+typedef struct {
+    uint64_t number, at, index, place, symbol, kind, addend, has_addend;
+} unwind_elf_relocation_read;
+
+/* The relocation at an index of a section of kind 4 or 9; 107 past the last one. */
+unwind_elf_relocation_read unwind_elf_relocation(const uint8_t *file, size_t file_n, uint64_t section, uint64_t index);
 
 #ifdef __cplusplus
 }

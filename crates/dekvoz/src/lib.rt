@@ -14,5 +14,6 @@ pub mod places;
 pub mod sections;
 pub mod sites;
 pub mod structs;
+pub mod symbols;
 pub mod tables;
 pub mod x64_records;
