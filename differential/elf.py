@@ -556,6 +556,8 @@ def with_readelf():
                 sys.exit(f"elf: {path}: section {i}: readelf says {section}, ours is {ours.get(i)}")
         if parts != mine:
             sys.exit(f"elf: {path}: segments: readelf says {parts}, ours are {mine}")
+        if want.keys() != ours.keys():
+            sys.exit(f"elf: {path}: readelf lists {len(want)} sections, ours are {len(ours)}: {sorted(want.keys() ^ ours.keys())[:5]}")
         n, sections, segments = n + 1, sections + len(want), segments + len(parts)
     print(f"elf: {sections} sections and {segments} segments of {n} files are as readelf lists them")
 

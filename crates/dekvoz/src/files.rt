@@ -33,7 +33,8 @@ pub extern "C" fn unwind_elf_section(file: &[u8], index: u64) -> ElfSection
     elf::unwind_elf_section(file, index)
 }
 
-/// The first section of a name, or a refusal by 101 to 107. A section whose name cannot be read is passed over.
+/// The first section of a name, or a refusal by 101 to 107. A section whose name cannot be read is passed
+/// over.
 #[unsafe(no_mangle)]
 pub extern "C" fn unwind_elf_section_named(file: &[u8], name: &[u8]) -> ElfSection
     ensures value { result ≡ section_answer (section_named file.now name.now) }
@@ -59,8 +60,8 @@ pub extern "C" fn unwind_elf_segment(file: &[u8], index: u64) -> ElfSegment
     elf::unwind_elf_segment(file, index)
 }
 
-/// The note at a place of a file, in a section or a segment that ends at `end` and has an alignment; or a refusal by 103, 107 where
-/// no byte is left, or 109.
+/// The note at a place of a file, in a section or a segment that ends at `end` and has an alignment; or a
+/// refusal by 103, 107 where no byte is left, or 109.
 #[unsafe(no_mangle)]
 pub extern "C" fn unwind_elf_note(file: &[u8], place: u64, end: u64, align: u64) -> ElfNote
     ensures value { result ≡ note_answer (note_at file.now place end align) }

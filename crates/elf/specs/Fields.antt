@@ -1,4 +1,5 @@
--- Numbers and pieces at places in a file, the least byte first (System V gABI, "Data Representation" and "ELF Identification").
+-- Numbers and pieces at places in a file, the least byte first (System V gABI, "Data Representation" and "ELF
+-- Identification").
 use Rattle.std.specs.Prelude.{ℕ, List, take, drop, Bool, true, false, if◌then◌else◌}
 use Rattle.std.specs.Int.{Width, w32, w64, from_le_bytes}
 use Rattle.elf.specs.declared.«class».Class.{Class}

@@ -14,7 +14,9 @@ header_size c = by_class c 52 64
 
 -- EI_MAG0 to EI_MAG3: 0x7f, and the letters ELF
 abbrev pub is_magic : List ℕ → Bool
-is_magic file = (slice_index file 0 == 127) && (slice_index file 1 == 69) && (slice_index file 2 == 76) && (slice_index file 3 == 70)
+is_magic file =
+    (slice_index file 0 == 127) && (slice_index file 1 == 69) && (slice_index file 2 == 76)
+    && (slice_index file 3 == 70)
 
 -- EI_CLASS: ELFCLASS32, ELFCLASS64
 abbrev pub class_at : ℕ → Result Class Refusal
@@ -36,7 +38,7 @@ abbrev pub header_of : Class → List ℕ → ElfHeader
 header_of c file = record {
   number = 0;
   at = 0;
-  «class» = by_class c 32 64;
+  class_bits = by_class c 32 64;
   kind = field w16 file 16;
   machine = field w16 file 18;
   flags = field w32 file (by_class c 36 48);
@@ -44,7 +46,15 @@ header_of c file = record {
 }
 
 abbrev pub refused_header : Refusal → ElfHeader
-refused_header r = record { number = reason_number r.reason; at = r.place; «class» = 0; kind = 0; machine = 0; flags = 0; entry = 0 }
+refused_header r = record {
+  number = reason_number r.reason;
+  at = r.place;
+  class_bits = 0;
+  kind = 0;
+  machine = 0;
+  flags = 0;
+  entry = 0;
+}
 
 abbrev pub header_or : List ℕ → Result Class Refusal → ElfHeader
 header_or file (Ok c) = header_of c file

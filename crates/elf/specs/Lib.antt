@@ -1,4 +1,4 @@
--- What an ELF file says: its header, its tables of sections, segments, symbols and relocations, its names and notes.
+-- What an ELF file says: its header, its tables of sections and segments, its names and notes.
 pub mod Fields
 pub mod Refusals
 pub mod Tables

@@ -1,5 +1,6 @@
--- Notes, one after another (System V gABI, "Note Section"): three numbers, a name and a text, these padded to a multiple of 4 bytes;
--- or to one of 8, where their section or segment has that alignment, as of .note.gnu.property.
+-- Notes, one after another (System V gABI, "Note Section"): three numbers, a name and a text, these padded to a
+-- multiple of 4 bytes; or to one of 8, where their section or segment has that alignment, as of
+-- .note.gnu.property.
 use Rattle.std.specs.Prelude.{ℕ, zero, suc, ◌+◌, ◌-◌, ◌*◌, ◌/◌, ◌≤◌, List, length, Bool, true, false, not, ◌&&◌, Result, Ok, Err, nat_le, nat_lt, ◌==◌, if◌then◌else◌, unwrap_or, min}
 use Rattle.std.specs.Int.{w32}
 use Rattle.std.specs.Str.{bytes_eq}
@@ -15,7 +16,8 @@ padded eight size = if eight then (size + 7) / 8 * 8 else (size + 3) / 4 * 4
 
 -- by the alignment of what they stand in; one below 4 is taken as 4
 abbrev pub is_padded_to_eight : (align place : ℕ) → Result Bool Refusal
-is_padded_to_eight align place = if nat_le align 4 then Ok false else if align == 8 then Ok true else refuse Alignment place
+is_padded_to_eight align place =
+    if nat_le align 4 then Ok false else if align == 8 then Ok true else refuse Alignment place
 
 -- a name ends at its 0
 abbrev pub name_length : List ℕ → ℕ
@@ -56,10 +58,12 @@ abbrev pub is_wanted : List ℕ → (name : List ℕ) → (kind : ℕ) → ElfNo
 is_wanted file name kind n = (n.kind == kind) && bytes_eq (piece file n.name n.name_length) name
 
 -- the first note of a name and a kind, among at most so many
-unfoldable pub first_note : List ℕ → (name : List ℕ) → (kind end : ℕ) → (eight : Bool) → (most place : ℕ) → Result ElfNote Refusal
+unfoldable pub first_note :
+    List ℕ → (name : List ℕ) → (kind end : ℕ) → (eight : Bool) → (most place : ℕ) → Result ElfNote Refusal
 first_note file name kind end eight zero place = refuse NoEntry end
 first_note file name kind end eight (suc most) place =
-    note_in file place end eight >>= λ n. if is_wanted file name kind n then Ok n else first_note file name kind end eight most n.next
+    note_in file place end eight >>= λ n.
+    if is_wanted file name kind n then Ok n else first_note file name kind end eight most n.next
 
 -- from `place` to `end` is a part of the file
 abbrev pub is_part : List ℕ → (place end : ℕ) → Bool
@@ -71,7 +75,8 @@ note_at file place end align =
     else is_padded_to_eight align place >>= λ eight. note_in file place end eight
 
 -- each note has 12 bytes or more, so there are fewer notes than bytes
-unfoldable pub note_named : List ℕ → (place end align : ℕ) → (name : List ℕ) → (kind : ℕ) → Result ElfNote Refusal
+unfoldable pub note_named :
+    List ℕ → (place end align : ℕ) → (name : List ℕ) → (kind : ℕ) → Result ElfNote Refusal
 note_named file place end align name kind =
     if not (is_part file place end) then refuse Outside place
     else is_padded_to_eight align place >>= λ eight. first_note file name kind end eight (end - place) place

@@ -51,7 +51,8 @@ abbrev pub before_zero : (place fault : ℕ) → Option ℕ → Result Span Refu
 before_zero place fault None = refuse Name fault
 before_zero place fault (Some n) = Ok (record { place = place; length = n })
 
--- the name that begins at an offset in strings and ends in them; offset 0 of an empty section is an empty name
+-- the name that begins at an offset in strings and ends in them; offset 0 of an empty section is an empty
+-- name
 unfoldable pub name_in : List ℕ → Span → (offset fault : ℕ) → Result Span Refusal
 name_in file s offset fault =
     if (offset == 0) && (s.length == 0) then Ok s
@@ -60,13 +61,15 @@ name_in file s offset fault =
 
 -- where e_shstrndx is SHN_UNDEF, sections have no names
 unfoldable pub name_of : List ℕ → Sections → SectionEntry → Result Span Refusal
-name_of file t e = if t.names == 0 then Ok nothing else strings_of file t t.names >>= λ s. name_in file s e.name e.at
+name_of file t e =
+    if t.names == 0 then Ok nothing else strings_of file t t.names >>= λ s. name_in file s e.name e.at
 
 -- for C
 abbrev pub bit : Bool → ℕ
 bit b = if b then 1 else 0
 
-abbrev pub section_numbers : (index : ℕ) → SectionEntry → (name bytes : Span) → (compressed : Bool) → ElfSection
+abbrev pub section_numbers :
+    (index : ℕ) → SectionEntry → (name bytes : Span) → (compressed : Bool) → ElfSection
 section_numbers index e name bytes compressed = record {
   number = 0;
   at = 0;
@@ -106,7 +109,8 @@ holds (Err r) = false
 
 unfoldable pub has_name : List ℕ → Sections → (wanted : List ℕ) → (index : ℕ) → Bool
 has_name file t wanted i =
-    holds (entry_at file t i >>= λ e. name_of file t e >>= λ n. Ok (bytes_eq (piece file n.place n.length) wanted))
+    holds (entry_at file t i >>= λ e. name_of file t e >>= λ n.
+    Ok (bytes_eq (piece file n.place n.length) wanted))
 
 -- the section found; else 107 at the table's end
 abbrev pub found_in : List ℕ → Sections → Option ℕ → Result ElfSection Refusal

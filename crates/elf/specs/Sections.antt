@@ -1,5 +1,5 @@
 -- The section table of a file (System V gABI, "ELF Header", "Sections" and "Extended section numbering").
-use Rattle.std.specs.Prelude.{ℕ, ◌+◌, List, length, not, ◌||◌, Result, Ok, Err, nat_lt, ◌==◌, if◌then◌else◌}
+use Rattle.std.specs.Prelude.{ℕ, ◌+◌, List, length, Bool, not, ◌||◌, Result, Ok, Err, nat_lt, ◌==◌, if◌then◌else◌}
 use Rattle.std.specs.Int.{w16, w32}
 use Rattle.elf.specs.declared.«class».Class.{Class}
 use Rattle.elf.specs.declared.refusal.Reason.TheVariants.{Outside, Name, EntrySize}
@@ -35,12 +35,14 @@ sections_place c file = word c file (shoff c)
 
 -- what is too large for the header stands in section 0: the count in sh_size, where e_shnum is 0
 unfoldable pub count_of : Class → List ℕ → (place : ℕ) → ℕ
-count_of c file place = if field w16 file (shnum c) == 0 then word c file (place + by_class c 20 32) else field w16 file (shnum c)
+count_of c file place =
+    if field w16 file (shnum c) == 0 then word c file (place + by_class c 20 32) else field w16 file (shnum c)
 
 -- and the index of the names in sh_link, where e_shstrndx is SHN_XINDEX
 unfoldable pub names_of : Class → List ℕ → (place : ℕ) → ℕ
 names_of c file place =
-    if field w16 file (shstrndx c) == 65535 then field w32 file (place + by_class c 24 40) else field w16 file (shstrndx c)
+    if field w16 file (shstrndx c) == 65535 then field w32 file (place + by_class c 24 40)
+    else field w16 file (shstrndx c)
 
 abbrev pub table_in : Sections → Table
 table_in t = record { place = t.place; size = section_size t.«class»; count = t.count }
@@ -52,12 +54,20 @@ checked t file =
     else if (t.names == 0) || nat_lt t.names t.count then Ok t
     else refuse Name (shstrndx t.«class»)
 
+-- section 0's entry lies in the file
+abbrev pub has_first : Class → List ℕ → (place : ℕ) → Bool
+has_first c file place = is_inside (record { place = place; size = section_size c; count = 1 }) (length file)
+
+abbrev pub sections_from : Class → List ℕ → (place : ℕ) → Sections
+sections_from c file place =
+    record { «class» = c; place = place; count = count_of c file place; names = names_of c file place }
+
 -- the table at a place that is not 0
 unfoldable pub table_at : Class → List ℕ → (place : ℕ) → Result Sections Refusal
 table_at c file place =
     if not (field w16 file (shentsize c) == section_size c) then refuse EntrySize (shentsize c)
-    else if not (is_inside (record { place = place; size = section_size c; count = 1 }) (length file)) then refuse Outside (shoff c)
-    else checked (record { «class» = c; place = place; count = count_of c file place; names = names_of c file place }) file
+    else if not (has_first c file place) then refuse Outside (shoff c)
+    else checked (sections_from c file place) file
 
 -- a file whose e_shoff is 0 has no sections
 unfoldable pub sections_of : Class → List ℕ → Result Sections Refusal
@@ -85,7 +95,8 @@ entry_in c at r = record {
 }
 
 unfoldable pub entry_at : List ℕ → Sections → (index : ℕ) → Result SectionEntry Refusal
-entry_at file t i = entry_of (table_in t) file i >>= λ r. Ok (entry_in t.«class» (entry_place (table_in t) i) r)
+entry_at file t i =
+    entry_of (table_in t) file i >>= λ r. Ok (entry_in t.«class» (entry_place (table_in t) i) r)
 
 -- for C
 abbrev pub sections_numbers : Sections → ElfSections

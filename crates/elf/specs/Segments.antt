@@ -11,7 +11,7 @@ use Rattle.elf.specs.declared.table.Table.{Table}
 use Rattle.elf.specs.Fields.{field, word, by_class}
 use Rattle.elf.specs.Header.{class_of}
 use Rattle.elf.specs.Refusals.{refuse, reason_number, ◌>>=◌}
-use Rattle.elf.specs.Sections.{section_size, shoff, sections_place}
+use Rattle.elf.specs.Sections.{shoff, sections_place, has_first}
 use Rattle.elf.specs.Tables.{is_inside, entry_of}
 
 -- the size of an entry, Elf32_Phdr and Elf64_Phdr
@@ -34,13 +34,14 @@ table_in t = record { place = t.place; size = segment_size t.«class»; count = 
 -- sh_info of section 0, whose entry lies in the file
 unfoldable pub first_info : Class → List ℕ → Result ℕ Refusal
 first_info c file =
-    if (sections_place c file == 0) || not (is_inside (record { place = sections_place c file; size = section_size c; count = 1 }) (length file))
+    if (sections_place c file == 0) || not (has_first c file (sections_place c file))
     then refuse Outside (shoff c)
     else Ok (field w32 file (sections_place c file + by_class c 28 44))
 
 -- a count that is too large for the header stands in section 0, where e_phnum is PN_XNUM
 unfoldable pub count_of : Class → List ℕ → Result ℕ Refusal
-count_of c file = if field w16 file (phnum c) == 65535 then first_info c file else Ok (field w16 file (phnum c))
+count_of c file =
+    if field w16 file (phnum c) == 65535 then first_info c file else Ok (field w16 file (phnum c))
 
 abbrev pub inside : Segments → List ℕ → Result Segments Refusal
 inside t file = if is_inside (table_in t) (length file) then Ok t else refuse Outside (phoff t.«class»)
@@ -50,7 +51,8 @@ unfoldable pub segments_of : Class → List ℕ → Result Segments Refusal
 segments_of c file =
     if word c file (phoff c) == 0 then Ok (record { «class» = c; place = 0; count = 0 })
     else if not (field w16 file (phentsize c) == segment_size c) then refuse EntrySize (phentsize c)
-    else count_of c file >>= λ count. inside (record { «class» = c; place = word c file (phoff c); count = count }) file
+    else count_of c file >>= λ count.
+    inside (record { «class» = c; place = word c file (phoff c); count = count }) file
 
 unfoldable pub file_segments : List ℕ → Result Segments Refusal
 file_segments file = class_of file >>= λ c. segments_of c file
@@ -91,7 +93,9 @@ segment_in c index size r = record {
 }
 
 unfoldable pub segment_at : List ℕ → (index : ℕ) → Result ElfSegment Refusal
-segment_at file i = file_segments file >>= λ t. entry_of (table_in t) file i >>= λ r. Ok (segment_in t.«class» i (length file) r)
+segment_at file i =
+    file_segments file >>= λ t. entry_of (table_in t) file i >>= λ r.
+    Ok (segment_in t.«class» i (length file) r)
 
 abbrev pub refused_segment : Refusal → ElfSegment
 refused_segment r = record {

@@ -15,7 +15,7 @@ pub struct ElfHeader {
     pub number: u64,
     pub at: u64,
     /// 32 or 64.
-    pub class: u64,
+    pub class_bits: u64,
     /// e_type: 1 a relocatable file, 2 an executable, 3 a shared object, 4 a core file.
     pub kind: u64,
     pub machine: u64,
@@ -78,7 +78,7 @@ fn header_in(class: Class, file: &[u8]) -> ElfHeader
     ElfHeader {
         number: 0,
         at: 0,
-        class: if class.is_wide() { 64 } else { 32 },
+        class_bits: if class.is_wide() { 64 } else { 32 },
         kind: u64::from(u16_at(file, 16)),
         machine: u64::from(u16_at(file, 18)),
         flags: u64::from(u32_at(file, class.pick(36, 48))),

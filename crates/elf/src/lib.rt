@@ -1,4 +1,5 @@
-// The tables of an ELF file, little-endian, of 32 or 64 bits (System V gABI), over its bytes as they are lent.
+// The tables of an ELF file, little-endian, of 32 or 64 bits (System V gABI), over its bytes as they are
+// lent.
 #![tactic(auto)]
 
 pub mod class;

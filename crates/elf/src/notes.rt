@@ -8,7 +8,8 @@ use crate::fields::u32_at;
 use crate::refusal::{Reason, Refusal};
 use crate::section::{Span, end_of};
 
-/// What unwind_elf_note answers: a note's kind, where its name and its text stand, and where the next note does.
+/// What unwind_elf_note answers: a note's kind, where its name and its text stand, and where the next note
+/// does.
 // Kept: a number beside the fields, since C reads it.
 #[repr(C)]
 #[derive(Clone, Copy, Default)]
@@ -111,7 +112,7 @@ impl ElfNote {
 }
 
 /// The first note of a name and a kind.
-#[tactic(auto, using(crate::proofs::Walks::goes_on, crate::proofs::Walks::is_found, crate::proofs::Walks::is_faulty, crate::proofs::Walks::is_missing))]
+#[tactic(auto, using(crate::proofs::Walks::walk_steps))]
 fn first_note(
     file: &[u8],
     place: u64,
@@ -181,8 +182,8 @@ fn refused(refusal: Refusal) -> ElfNote
     }
 }
 
-/// The note at a place of a file, in a section or a segment that ends at `end` and has an alignment; or a refusal by 103, 107 where no
-/// byte is left, or 109.
+/// The note at a place of a file, in a section or a segment that ends at `end` and has an alignment; or a
+/// refusal by 103, 107 where no byte is left, or 109.
 #[unsafe(no_mangle)]
 pub extern "C" fn unwind_elf_note(file: &[u8], place: u64, end: u64, align: u64) -> ElfNote
     ensures value { result ≡ note_answer (note_at file.now place end align) }

@@ -114,7 +114,8 @@ pub fn end_of(text: &[u8]) -> Option<usize>
     text.iter().position(|b| *b == 0)
 }
 
-/// The name that begins at an offset in strings, up to its 0; where there is none, what stands at `fault` is wrong.
+/// The name that begins at an offset in strings, up to its 0; where there is none, what stands at `fault` is
+/// wrong.
 #[tactic(auto, unfolding(crate::specs::Section::name_in))]
 pub fn name_in(file: &[u8], strings: Span, offset: u64, fault: u64) -> Result<Span, Refusal>
     requires { strings.place + strings.length ≤ length file.now }
@@ -250,7 +251,7 @@ impl Sections {
     }
 
     /// The index of the first section of a name.
-    #[tactic(auto, using(crate::proofs::Searches::first_here, crate::proofs::Searches::first_later, crate::proofs::Searches::first_none))]
+    #[tactic(auto, using(crate::proofs::Searches::search_steps))]
     fn position(self, file: &[u8], wanted: &[u8]) -> Option<u64>
         requires { is_inside (table_in self) (length file.now) ≡ true }
         ensures { result ≡ first (has_name file.now self wanted.now) self.count 0 }
@@ -309,7 +310,8 @@ pub extern "C" fn unwind_elf_section(file: &[u8], index: u64) -> ElfSection
     }
 }
 
-/// The first section of a name, or a refusal by 101 to 107. A section whose name cannot be read is passed over.
+/// The first section of a name, or a refusal by 101 to 107. A section whose name cannot be read is passed
+/// over.
 #[unsafe(no_mangle)]
 pub extern "C" fn unwind_elf_section_named(file: &[u8], name: &[u8]) -> ElfSection
     ensures value { result ≡ section_answer (section_named file.now name.now) }

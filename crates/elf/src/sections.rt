@@ -2,7 +2,7 @@
 
 ghost use Rattle.std.specs.Prelude.{◌≡◌, ◌+◌, ◌≤◌, ◌<◌, length, true, IfOk};
 ghost use Rattle.elf.specs.Header.{header_size};
-ghost use Rattle.elf.specs.Sections.{section_size, shoff, sections_place, table_in, count_of, names_of, checked, table_at, sections_of, file_sections, sections_answer, sections_numbers, refused_sections, entry_in, entry_at};
+ghost use Rattle.elf.specs.Sections.{section_size, shoff, sections_place, table_in, has_first, count_of, names_of, checked, table_at, sections_of, file_sections, sections_answer, sections_numbers, refused_sections, entry_in, entry_at};
 ghost use Rattle.elf.specs.Tables.{is_inside};
 
 use crate::class::Class;
@@ -57,7 +57,7 @@ pub fn sections_place(class: Class, file: &[u8]) -> u64
 
 /// Whether section 0's entry lies in the file, where the table stands at a place.
 pub fn has_first(class: Class, file: &[u8], place: u64) -> bool
-    ensures { result ≡ is_inside (record { place = place; size = section_size class; count = 1 }) (length file.now) }
+    ensures { result ≡ has_first class file.now place }
 {
     let size = section_size(class) as u64;
     Table {
@@ -216,7 +216,8 @@ impl Sections {
     }
 }
 
-/// What unwind_elf_sections answers: where the section table stands, how many sections it has, and which one has their names.
+/// What unwind_elf_sections answers: where the section table stands, how many sections it has, and which one
+/// has their names.
 // Kept: a number beside the fields, since C reads it.
 #[repr(C)]
 #[derive(Clone, Copy, Default)]

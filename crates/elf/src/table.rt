@@ -1,11 +1,8 @@
 //! Tables in a file: entries of one size, one after another.
 
-ghost use Rattle.std.specs.Prelude.{◌≡◌, ℕ, List, ◌+◌, ◌*◌, ◌≤◌, ◌<◌, length, slice_get, true, None, Some, IfOk, OnOk};
-ghost use Rattle.std.specs.List.{concat};
-ghost use Rattle.std.specs.Int.{Width, byte_len};
-ghost use Rattle.elf.specs.Fields.{field, piece};
+ghost use Rattle.std.specs.Prelude.{◌≡◌, ◌+◌, ◌*◌, ◌≤◌, ◌<◌, length, true, IfOk, OnOk};
 ghost use Rattle.elf.specs.Refusals.{Gives};
-ghost use Rattle.elf.specs.Tables.{is_inside, entries, entry_of, entry_place};
+ghost use Rattle.elf.specs.Tables.{is_inside, entry_of, entry_place, HasEntries, HasCount, AreItsBytes, KeepsFields};
 
 use crate::refusal::{Reason, Refusal};
 
@@ -62,11 +59,12 @@ impl Table {
     }
 }
 
-/// A table has its entries, each of its size, and they are all of its bytes; a field of an entry is a field of the file.
-#[tactic(auto, using(crate::proofs::Tables::entry_at, crate::proofs::Tables::length_entries, crate::proofs::Tables::concat_entries, crate::proofs::Tables::field_at))]
+/// A table has its entries, each of its size, and they are all of its bytes; a field of an entry is a field of
+/// the file.
+#[tactic(auto, using(crate::proofs::Tables::table_laws))]
 pub fn table_law()
-    ensures get { (file : List ℕ) (place size n i : ℕ) → i < n → slice_get (entries file place size n) i ≡ Some (piece file (place + size * i) size) }
-    ensures count { (file : List ℕ) (place size n : ℕ) → length (entries file place size n) ≡ n }
-    ensures bytes { (file : List ℕ) (place size n : ℕ) → concat (entries file place size n) ≡ piece file place (size * n) }
-    ensures field { (file : List ℕ) (place size at : ℕ) (w : Width) → 0 < byte_len w → at + byte_len w ≤ size → field w (piece file place size) at ≡ field w file (place + at) }
+    ensures get { HasEntries }
+    ensures count { HasCount }
+    ensures bytes { AreItsBytes }
+    ensures field { KeepsFields }
 {}

@@ -12,6 +12,7 @@ nearest_later p count i found below =
     let f : i + 1 ≡ suc i = omega arith in
     rw (f, e) refl
 
-pub nearest_none : (p : ℕ → Option Function) (count i : ℕ) (found : Option Function) → count ≤ i → nearest p (count - i) i found ≡ found
+pub nearest_none : (p : ℕ → Option Function) (count i : ℕ) (found : Option Function) → count ≤ i
+    → nearest p (count - i) i found ≡ found
 unfolding nearest
 nearest_none p count i found past = let e : count - i ≡ 0 = omega arith in rw e refl

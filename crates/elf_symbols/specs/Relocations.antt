@@ -1,5 +1,5 @@
 -- The relocations of a section (System V gABI, "Relocation").
-use Rattle.std.specs.Prelude.{ℕ, ◌+◌, ◌/◌, ◌%◌, ◌^◌, List, Bool, true, false, Result, Ok, Err, ◌==◌, if◌then◌else◌}
+use Rattle.std.specs.Prelude.{ℕ, ◌+◌, ◌/◌, ◌%◌, ◌^◌, List, Bool, true, false, not, Result, Ok, Err, ◌==◌, if◌then◌else◌}
 use Rattle.std.specs.Int.{w32, w64, cast_signed, cast_unsigned}
 use Rattle.elf.specs.declared.«class».Class.{Class}
 use Rattle.elf.specs.declared.refusal.Reason.TheVariants.{Kind}
@@ -30,13 +30,16 @@ has_addends_of e = if e.kind == 4 then Ok true else if e.kind == 9 then Ok false
 -- the relocations of the section at an index
 unfoldable pub relocations_of : List ℕ → Sections → (section : ℕ) → Result Relocations Refusal
 relocations_of file t k =
-    entry_at file t k >>= λ e. has_addends_of e >>= λ addends. entries_in file t e (relocation_size t.«class» addends) >>= λ table.
+    entry_at file t k >>= λ e. has_addends_of e >>= λ addends.
+    entries_in file t e (relocation_size t.«class» addends) >>= λ table.
     Ok (record { «class» = t.«class»; addends = addends; place = table.place; count = table.count })
 
 -- r_addend, in 64 bits
 abbrev pub addend_in : Relocations → List ℕ → ℕ
 addend_in t r =
-    if t.addends then (if is_wide t.«class» then field w64 r 16 else cast_unsigned w64 (cast_signed w32 (field w32 r 8))) else 0
+    if not t.addends then 0
+    else if is_wide t.«class» then field w64 r 16
+    else cast_unsigned w64 (cast_signed w32 (field w32 r 8))
 
 -- ELF32_R_SYM and ELF32_R_TYPE, ELF64_R_SYM and ELF64_R_TYPE: r_info has the symbol above the kind
 abbrev pub symbol_of : Class → (info : ℕ) → ℕ
@@ -55,18 +58,28 @@ relocation_in t index r = record {
   symbol = symbol_of t.«class» (word t.«class» r (by_class t.«class» 4 8));
   kind = kind_of t.«class» (word t.«class» r (by_class t.«class» 4 8));
   addend = addend_in t r;
-  explicit = bit t.addends;
+  has_addend = bit t.addends;
 }
 
 unfoldable pub relocation_at : List ℕ → (section index : ℕ) → Result ElfRelocation Refusal
 relocation_at file k i =
-    file_sections file >>= λ t. relocations_of file t k >>= λ r. entry_of (relocations_table r) file i >>= λ bytes.
+    file_sections file >>= λ t. relocations_of file t k >>= λ r.
+    entry_of (relocations_table r) file i >>= λ bytes.
     Ok (relocation_in r i bytes)
 
 -- for C
 abbrev pub refused_relocation : Refusal → ElfRelocation
 refused_relocation r =
-    record { number = reason_number r.reason; at = r.place; index = 0; place = 0; symbol = 0; kind = 0; addend = 0; explicit = 0 }
+    record {
+      number = reason_number r.reason;
+      at = r.place;
+      index = 0;
+      place = 0;
+      symbol = 0;
+      kind = 0;
+      addend = 0;
+      has_addend = 0;
+    }
 
 abbrev pub relocation_answer : Result ElfRelocation Refusal → ElfRelocation
 relocation_answer (Ok x) = x

@@ -54,7 +54,8 @@ entry_in c at r = record {
 }
 
 unfoldable pub entry_at : List ℕ → Symbols → (index : ℕ) → Result SymbolEntry Refusal
-entry_at file s i = entry_of (symbols_table s) file i >>= λ r. Ok (entry_in s.«class» (entry_place (symbols_table s) i) r)
+entry_at file s i =
+    entry_of (symbols_table s) file i >>= λ r. Ok (entry_in s.«class» (entry_place (symbols_table s) i) r)
 
 -- ELF32_ST_TYPE, ELF32_ST_BIND and ELF32_ST_VISIBILITY
 abbrev pub kind_of : SymbolEntry → ℕ
@@ -87,7 +88,8 @@ abbrev pub SymbolLiesIn : (size : ℕ) → ElfSymbol → Type 0
 SymbolLiesIn size s = s.name + s.name_length ≤ size
 
 unfoldable pub symbol_in : List ℕ → Symbols → (index : ℕ) → Result ElfSymbol Refusal
-symbol_in file s i = entry_at file s i >>= λ e. name_in file s.strings e.name e.at >>= λ name. Ok (symbol_numbers i e name)
+symbol_in file s i =
+    entry_at file s i >>= λ e. name_in file s.strings e.name e.at >>= λ name. Ok (symbol_numbers i e name)
 
 -- the symbol at an index of a section
 unfoldable pub symbol_at : List ℕ → (section index : ℕ) → Result ElfSymbol Refusal

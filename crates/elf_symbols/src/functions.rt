@@ -214,8 +214,9 @@ fn function_at(file: &[u8], table: u64, section: u64, address: u64) -> Result<El
 }
 
 // Kept: its parameters one by one, as C passes them.
-/// The function symbol of a table that covers an address, of those in a section unless that is 0: one with a size before one without,
-/// which covers up to its section's end; then the one that begins last; then the shortest; then the first. Or a refusal by 101 to 108.
+/// The function symbol of a table that covers an address, of those in a section unless that is 0: one with a
+/// size before one without, which covers up to its section's end; then the one that begins last; then the
+/// shortest; then the first. Or a refusal by 101 to 108.
 #[unsafe(no_mangle)]
 pub extern "C" fn unwind_elf_symbol_at(
     file: &[u8],

@@ -96,7 +96,7 @@ pub struct ElfRelocation {
     /// 64-bit two's complement; 0 where the entry has none.
     pub addend: u64,
     /// 1 where the entry has an addend; else that stands at the place.
-    pub explicit: u64,
+    pub has_addend: u64,
 }
 
 impl Relocations {
@@ -136,7 +136,7 @@ impl Relocations {
                 info % 256
             },
             addend: self.addend(entry),
-            explicit: u64::from(self.addends),
+            has_addend: u64::from(self.addends),
         }
     }
 }
