@@ -413,6 +413,92 @@ unwind_written unwind_relaxed_debug_frame_of(
     uint64_t *places, size_t places_n, uint8_t *bytes, size_t bytes_n,
     uint64_t *relocations, size_t relocations_n);
 
+/* ELF files (System V gABI), little-endian, of 32 or 64 bits, over a file's bytes as they are lent.
+ *
+ * Each answer begins with a number, 0 or why not, and `at`, the place in the file of what is at fault; all else is then 0:
+ *   101 no ELF file                       102 a class, a byte order or a version that is not known
+ *   103 the header, a table, a section    104 a name does not lie in its strings
+ *       or a note does not lie in the     105 an entry size other than the class's
+ *       file                              106 a table in a section that is compressed
+ *   107 there is no such entry            108 a section of another kind than is asked for
+ *   109 an alignment of notes that is neither 4 nor 8
+ * In each, `index` is the one that was asked for or found, and places are those of the file. */
+typedef struct {
+    uint64_t number, at, class_bits, kind, machine, flags, entry;
+} unwind_elf_header_read;
+
+/* The header: 32 or 64, e_type (1 relocatable, 2 executable, 3 shared object, 4 core file), e_machine, e_flags, e_entry. */
+unwind_elf_header_read unwind_elf_header(const uint8_t *file, size_t file_n);
+
+/* Where the section table stands, how many sections it has, and the index of the one with their names; counts and indexes that are
+ * too large for the header come from section 0. A file without a section table has 0 sections. */
+typedef struct {
+    uint64_t number, at, place, count, names;
+} unwind_elf_sections_read;
+
+unwind_elf_sections_read unwind_elf_sections(const uint8_t *file, size_t file_n);
+
+/* A section. name: where its name stands in the file, with name_length bytes and a 0 behind them; both are 0 where sections have no
+ * names. length: how many bytes it has at its place; 0 for SHT_NULL and SHT_NOBITS. compressed: 1 where SHF_COMPRESSED is set or the
+ * name begins with .zdebug. Name and bytes lie in the file. */
+typedef struct {
+    uint64_t number, at, index, name, name_length, kind, flags, address, place, size, length, link, info, align, entry_size, compressed;
+} unwind_elf_section_read;
+
+unwind_elf_section_read unwind_elf_section(const uint8_t *file, size_t file_n, uint64_t index);
+
+/* The first section of a name. A section whose name cannot be read is passed over. */
+unwind_elf_section_read unwind_elf_section_named(const uint8_t *file, size_t file_n, const uint8_t *name, size_t name_n);
+
+/* Where the table of segments stands, and how many it has. */
+typedef struct {
+    uint64_t number, at, place, count;
+} unwind_elf_segments_read;
+
+unwind_elf_segments_read unwind_elf_segments(const uint8_t *file, size_t file_n);
+
+/* A segment. length: how many of its bytes the file has at its place, which are fewer than its size where a core file was cut off. */
+typedef struct {
+    uint64_t number, at, index, kind, flags, place, address, physical, size, memory, align, length;
+} unwind_elf_segment_read;
+
+unwind_elf_segment_read unwind_elf_segment(const uint8_t *file, size_t file_n, uint64_t index);
+
+/* The note at a place of a section or a segment that ends at `end` and has an alignment (of 8, or of 4 or less): its kind, its name up
+ * to a 0, its text, and where the next one stands; 107 where no byte is left. */
+typedef struct {
+    uint64_t number, at, kind, name, name_length, text, text_length, next;
+} unwind_elf_note_read;
+
+unwind_elf_note_read unwind_elf_note(const uint8_t *file, size_t file_n, uint64_t place, uint64_t end, uint64_t align);
+
+/* The first note of a name, without its 0, and a kind from a place on. */
+unwind_elf_note_read unwind_elf_note_named(
+    const uint8_t *file, size_t file_n, uint64_t place, uint64_t end, uint64_t align, const uint8_t *name, size_t name_n, uint64_t kind);
+
+/* A symbol. kind: STT_ (1 object, 2 function); binding: STB_ (0 local, 1 global, 2 weak); visibility: STV_; section: the index of its
+ * section (0 undefined, 0xfff1 absolute, 0xfff2 common, 0xffff where the index stands in a section of kind 18). */
+typedef struct {
+    uint64_t number, at, index, name, name_length, value, size, kind, binding, visibility, section;
+} unwind_elf_symbol_read;
+
+/* The symbol at an index of a section of kind 2 or 11; 107 past the last one. */
+unwind_elf_symbol_read unwind_elf_symbol(const uint8_t *file, size_t file_n, uint64_t section, uint64_t index);
+
+/* The function symbol of the table in a section that covers an address, of those whose section is the one given, unless that is 0: one
+ * with a size before one without, which covers up to its section's end; then the one that begins last, then the shortest, then the
+ * first. On ARM the Thumb mark of a value does not count. In a relocatable file addresses are those in the given section. */
+unwind_elf_symbol_read unwind_elf_symbol_at(const uint8_t *file, size_t file_n, uint64_t table, uint64_t section, uint64_t address);
+
+/* A relocation. symbol: its index in the table that the section's link names. addend: 64-bit two's complement, and has_addend 1, where
+ * the entry has one; else both are 0. */
+typedef struct {
+    uint64_t number, at, index, place, symbol, kind, addend, has_addend;
+} unwind_elf_relocation_read;
+
+/* The relocation at an index of a section of kind 4 or 9; 107 past the last one. */
+unwind_elf_relocation_read unwind_elf_relocation(const uint8_t *file, size_t file_n, uint64_t section, uint64_t index);
+
 #ifdef __cplusplus
 }
 #endif

@@ -34,6 +34,7 @@ extern crate alloc;
 pub mod arm64;
 mod builder;
 mod check;
+pub mod elf;
 pub mod lists;
 mod machines;
 pub mod parts;

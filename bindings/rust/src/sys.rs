@@ -169,7 +169,149 @@ pub(crate) struct Checked {
     pub record: u64,
 }
 
+/// An ELF file's header.
+#[repr(C)]
+pub(crate) struct ElfHeader {
+    pub number: u64,
+    pub at: u64,
+    pub class_bits: u64,
+    pub kind: u64,
+    pub machine: u64,
+    pub flags: u64,
+    pub entry: u64,
+}
+
+/// An ELF file's section table.
+#[repr(C)]
+pub(crate) struct ElfSections {
+    pub number: u64,
+    pub at: u64,
+    pub place: u64,
+    pub count: u64,
+    pub names: u64,
+}
+
+/// A section.
+#[repr(C)]
+pub(crate) struct ElfSection {
+    pub number: u64,
+    pub at: u64,
+    pub index: u64,
+    pub name: u64,
+    pub name_length: u64,
+    pub kind: u64,
+    pub flags: u64,
+    pub address: u64,
+    pub place: u64,
+    pub size: u64,
+    pub length: u64,
+    pub link: u64,
+    pub info: u64,
+    pub align: u64,
+    pub entry_size: u64,
+    pub compressed: u64,
+}
+
+/// An ELF file's table of segments.
+#[repr(C)]
+pub(crate) struct ElfSegments {
+    pub number: u64,
+    pub at: u64,
+    pub place: u64,
+    pub count: u64,
+}
+
+/// A segment.
+#[repr(C)]
+pub(crate) struct ElfSegment {
+    pub number: u64,
+    pub at: u64,
+    pub index: u64,
+    pub kind: u64,
+    pub flags: u64,
+    pub place: u64,
+    pub address: u64,
+    pub physical: u64,
+    pub size: u64,
+    pub memory: u64,
+    pub align: u64,
+    pub length: u64,
+}
+
+/// A note.
+#[repr(C)]
+pub(crate) struct ElfNote {
+    pub number: u64,
+    pub at: u64,
+    pub kind: u64,
+    pub name: u64,
+    pub name_length: u64,
+    pub text: u64,
+    pub text_length: u64,
+    pub next: u64,
+}
+
+/// A symbol.
+#[repr(C)]
+pub(crate) struct ElfSymbol {
+    pub number: u64,
+    pub at: u64,
+    pub index: u64,
+    pub name: u64,
+    pub name_length: u64,
+    pub value: u64,
+    pub size: u64,
+    pub kind: u64,
+    pub binding: u64,
+    pub visibility: u64,
+    pub section: u64,
+}
+
+/// A relocation.
+#[repr(C)]
+pub(crate) struct ElfRelocation {
+    pub number: u64,
+    pub at: u64,
+    pub index: u64,
+    pub place: u64,
+    pub symbol: u64,
+    pub kind: u64,
+    pub addend: u64,
+    pub has_addend: u64,
+}
+
 extern "C" {
+    pub(crate) fn unwind_elf_header(file: *const u8, file_n: usize) -> ElfHeader;
+
+    pub(crate) fn unwind_elf_sections(file: *const u8, file_n: usize) -> ElfSections;
+
+    pub(crate) fn unwind_elf_section(file: *const u8, file_n: usize, index: u64) -> ElfSection;
+
+    pub(crate) fn unwind_elf_section_named(file: *const u8, file_n: usize, name: *const u8, name_n: usize) -> ElfSection;
+
+    pub(crate) fn unwind_elf_segments(file: *const u8, file_n: usize) -> ElfSegments;
+
+    pub(crate) fn unwind_elf_segment(file: *const u8, file_n: usize, index: u64) -> ElfSegment;
+
+    pub(crate) fn unwind_elf_note(file: *const u8, file_n: usize, place: u64, end: u64, align: u64) -> ElfNote;
+
+    pub(crate) fn unwind_elf_note_named(
+        file: *const u8,
+        file_n: usize,
+        place: u64,
+        end: u64,
+        align: u64,
+        name: *const u8,
+        name_n: usize,
+        kind: u64,
+    ) -> ElfNote;
+
+    pub(crate) fn unwind_elf_symbol(file: *const u8, file_n: usize, section: u64, index: u64) -> ElfSymbol;
+
+    pub(crate) fn unwind_elf_symbol_at(file: *const u8, file_n: usize, table: u64, section: u64, address: u64) -> ElfSymbol;
+
+    pub(crate) fn unwind_elf_relocation(file: *const u8, file_n: usize, section: u64, index: u64) -> ElfRelocation;
+
     pub(crate) fn unwind_next_entry(section: *const u8, section_n: usize, kind: u64, at: u64) -> Entry;
 
     pub(crate) fn unwind_read_header(section: *const u8, section_n: usize, kind: u64, word: u64, place: u64) -> HeaderFields;
