@@ -1,0 +1,2 @@
+-- Laws of fields.
+pub mod Letters

@@ -1,0 +1,4 @@
+-- The fields of CIEs and FDEs.
+pub mod Augmentations
+pub mod Cies
+pub mod Fdes

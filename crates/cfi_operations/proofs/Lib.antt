@@ -1,0 +1,2 @@
+-- Laws of products.
+pub mod Signs

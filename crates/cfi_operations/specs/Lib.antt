@@ -1,0 +1,4 @@
+-- Operations and their operands.
+pub mod Numbers
+pub mod Operands
+pub mod Operations
