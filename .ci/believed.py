@@ -38,6 +38,8 @@ BELIEVED = '## What is to be believed'
 
 PATH = re.compile(r'Rattle\.([a-z_0-9]+)\.(specs|proofs)\.(.+)')
 START = re.compile(r'(?:unfoldable |abbrev )?(?:pub )?(?:(record|data) )?([^\s:({]+)')
+# where an operator's arguments go, in its name
+HOLE = '◌'
 WORD = re.compile(r'[^\s(){}\[\];,]+')
 
 
@@ -85,7 +87,7 @@ def uses(lines):
         if listed:
             for name in listed.group(2).split(','):
                 parts = name.strip().split(' as ')
-                names[parts[-1]] = target(listed.group(1), parts[0])
+                names[parts[-1]] = names[parts[-1].strip(HOLE)] = target(listed.group(1), parts[0])
         elif alias:
             aliases[alias.group(2)] = alias.group(1)
     return names, aliases
@@ -109,7 +111,7 @@ class Module:
             if line.startswith(('use ', 'pub mod ', 'mod ')):
                 comment = 0
                 continue
-            if not line.startswith((' ', 'unfolding')):
+            if not line.startswith((' ', 'unfolding', '(')):
                 kind, name = START.match(line).groups()
                 if name not in self.owner:
                     self.blocks[name] = [0, '']
