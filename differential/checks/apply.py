@@ -18,7 +18,6 @@ from common import ask  # noqa: E402
 from judges.apply import ADDRESS, DATA, IMAGE, PLUS, SIZES, TOP, WIDTHS, apply  # noqa: E402
 
 FILL = 0xA5
-SIZES.update({kind + i: (max(1, bits // 8),) for kind, bits in WIDTHS.items() for i in (0, 1)})
 
 
 def chosen():

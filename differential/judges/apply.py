@@ -3,6 +3,7 @@
 DATA, ADDRESS, PLUS, MINUS, IMAGE = range(5)
 WIDTHS = {5: 6, 7: 8, 9: 16, 11: 32}
 SIZES = {DATA: (4,), ADDRESS: (2, 4, 8), PLUS: (2, 4, 8), MINUS: (2, 4, 8), IMAGE: (4,)}
+SIZES.update({kind + i: (max(1, bits // 8),) for kind, bits in WIDTHS.items() for i in (0, 1)})
 TOP = 1 << 64
 
 
