@@ -68,8 +68,35 @@ const STACK: u64 = 0x8000;
 // Ten words of the stack, the registers 0 to 16 (rbp is 6, rsp 7), and the trailer: how far back the
 // registers stand, and in four bytes each how many they are and how long the stack is.
 const RECORDED: [u64; 29] = [
-    0, 0, 0, 0, 7, 0x1114, 0, 0, 0, 0x1009, 0, 0, 0, 0, 0, 0, 0x8040, STACK, 0, 0, 0, 0, 0, 0, 0, 0,
-    0, 136, 343597383697,
+    0,
+    0,
+    0,
+    0,
+    7,
+    0x1114,
+    0,
+    0,
+    0,
+    0x1009,
+    0,
+    0,
+    0,
+    0,
+    0,
+    0,
+    0x8040,
+    STACK,
+    0,
+    0,
+    0,
+    0,
+    0,
+    0,
+    0,
+    0,
+    0,
+    136,
+    343597383697,
 ];
 
 // The words as bytes, the low byte first.
@@ -115,20 +142,24 @@ fn machine() -> [u64; 70] {
 // ---- what is printed
 
 // A function's name, and what its writer said.
-fn heading(rt: &impl Print, name: &str, outcome: Result<Option<Counts>, Refusal>) -> io::Result<()> {
+fn heading(
+    rt: &impl Print,
+    name: &str,
+    outcome: Result<Option<Counts>, Refusal>,
+) -> io::Result<()> {
     match outcome {
         Ok(Some(c)) => {
-            println!(
-                rt;
+            println!(rt;
                 "{name}: {} places, {} bytes, {} relocations, {} bytes of call sites or info",
-                c.places,
-                c.bytes,
-                c.relocations,
-                c.sites
+                c.places, c.bytes, c.relocations, c.sites
             )
         }
         Ok(None) => println!(rt; "{name}: nothing"),
-        Err(r) => println!(rt; "{name}: {} at function {}", r.question.number(), r.position),
+        Err(r) => println!(rt;
+            "{name}: {} at function {}",
+            r.question.number(),
+            r.position
+        ),
     }
 }
 
@@ -195,9 +226,17 @@ fn both_sections(rt: &impl Print, k: u64, q: u16, p: u64) -> io::Result<()> {
         q,
         p,
     );
-    heading(rt, "two_sections::write_two_and_read, eh_frame", said.eh.outcome)?;
+    heading(
+        rt,
+        "two_sections::write_two_and_read, eh_frame",
+        said.eh.outcome,
+    )?;
     rules(rt, said.eh.answer)?;
-    heading(rt, "two_sections::write_two_and_read, debug_frame", said.debug.outcome)?;
+    heading(
+        rt,
+        "two_sections::write_two_and_read, debug_frame",
+        said.debug.outcome,
+    )?;
     rules(rt, said.debug.answer)
 }
 
@@ -216,7 +255,10 @@ fn checked(rt: &impl Print) -> io::Result<()> {
         &mut to.sites,
     );
     heading(rt, "checked_back::write_and_check", said.outcome)?;
-    println!(rt; "    {} at record {}", said.answer.number, said.answer.record)
+    println!(rt;
+        "    {} at record {}",
+        said.answer.number, said.answer.record
+    )
 }
 
 fn walked(rt: &impl Print) -> io::Result<()> {
@@ -241,12 +283,9 @@ fn walked(rt: &impl Print) -> io::Result<()> {
         &mut frames,
     );
     heading(rt, "walked_back::write_and_walk", said.outcome)?;
-    println!(
-        rt;
+    println!(rt;
         "    {}: {} frames, ending {}",
-        said.answer.number,
-        said.answer.frames,
-        said.answer.ending
+        said.answer.number, said.answer.frames, said.answer.ending
     )?;
     for k in 0..3 {
         println!(rt; "    function {} at {}", frames[2 * k], frames[2 * k + 1])?;
@@ -271,15 +310,9 @@ fn site(rt: &impl Print, k: u64, offset: u64) -> io::Result<()> {
     );
     heading(rt, "sites_back::write_and_read_site", said.outcome)?;
     let site = said.answer;
-    println!(
-        rt;
+    println!(rt;
         "    {}: found {}, start {}, length {}, pad {}, shortest {}",
-        site.number,
-        site.found,
-        site.start,
-        site.length,
-        site.pad,
-        site.shortest
+        site.number, site.found, site.start, site.length, site.pad, site.shortest
     )
 }
 
@@ -298,19 +331,12 @@ fn x64_record(rt: &impl Print) -> io::Result<()> {
     );
     heading(rt, "x64_back::seh_and_read", said.outcome)?;
     let read = said.answer;
-    println!(
-        rt;
+    println!(rt;
         "    {}: end {}, frame {}, register {}, offset {}, {} codes",
-        read.number,
-        read.end,
-        read.frame,
-        read.frame_register,
-        read.frame_offset,
-        read.codes
+        read.number, read.end, read.frame, read.frame_register, read.frame_offset, read.codes
     )?;
     for k in 0..3 {
-        println!(
-            rt;
+        println!(rt;
             "    {} {} {} {} {}",
             held[5 * k],
             held[5 * k + 1],
