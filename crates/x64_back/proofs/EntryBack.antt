@@ -6,7 +6,6 @@ use mathlib.Core.Bool.{Bool, true, false, not, ◌||◌}
 use mathlib.Core.Option.{Option, none, some}
 use mathlib.Core.List.{List, [], ◌∷◌}
 use lib.Dec.{T, eqb, eqb→eq}
-use lib.IntN.{ℤ}
 use lib.ListN.{length, get_or, set, take, drop, length-set}
 use Rattle.std.proofs.lemmas.List.{get_or-take, get_or_past, length-take}
 use lib.Seq.{drop-cons, get_or-drop, get_or-set_same, get_or-set_other}
@@ -27,7 +26,7 @@ use Rattle.walk.specs.Walk.{Memory, load}
 use Rattle.x64_back.specs.declared.undo.Registers.{Registers}
 use Rattle.x64_back.specs.Given.{or_frame_of, frame_of}
 use Rattle.x64_back.specs.Undo.{State, rsp, stack_pointer, set_at, loaded, with_register, with_vector, does, prologue_from, below, base_in, done, undoes, undo_from, undone, names, Unnamed, KeptBy, FrameKept, FitsCode, AddressesFit}
-use Rattle.x64_back.specs.Thread.{registers, pointer_in, with_integer, with_halves, sum64, difference, undo_save, undo_code, undo_codes, base_by, undo_info, undo_at, Within, StoresIn, AllStoredIn, Entered, EntryGiven, EntryBack}
+use Rattle.x64_back.specs.Thread.{pointer_in, with_integer, with_halves, sum64, difference, undo_save, undo_code, undo_codes, base_by, undo_info, undo_at, Within, StoresIn, AllStoredIn, Entered, EntryGiven, EntryBack}
 use Rattle.x64_back.proofs.EntryPointer.{goes_below, frame_ahead, frame_back, pointer_back}
 use Rattle.x64_back.proofs.FromHeader.{FromHeader, Bytes, all_from}
 
@@ -217,7 +216,7 @@ module _ (base : ℕ) where
   module _ (frame : ℕ) where
     one_framed : (c : Seh) (cs : List (ℕ × Seh)) (s : State) → (is_frame c || has_frame cs) ≡ true → FromHeader frame c → T (not (names c rsp)) → KeptBy c cs
         → ((u : State) → has_frame cs ≡ true
-            → (prologue_from base cs u).registers (frame_register frame) ≡ base_in cs (stack_pointer u) + frame_offset frame)
+        → (prologue_from base cs u).registers (frame_register frame) ≡ base_in cs (stack_pointer u) + frame_offset frame)
         → (prologue_from base cs (does base c s)).registers (frame_register frame)
         ≡ pick (is_frame c) (stack_pointer s) (base_in cs (below (stack_pointer s) c)) + frame_offset frame
     unfolding is_frame pick names

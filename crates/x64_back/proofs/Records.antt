@@ -1,12 +1,12 @@
 -- What is answered of a record that is undone: each refusal, and the registers before.
-use mathlib.Core.Path.{◌≡◌, sym, ◌∙◌}
+use mathlib.Core.Path.{◌≡◌, sym}
 use Prim.Native.Nat.{ℕ}
 use mathlib.Core.Bool.{Bool, false}
-use mathlib.Core.Option.{Option, none, some}
+use mathlib.Core.Option.{none}
 use mathlib.Core.List.{List}
 use lib.ListN.{drop}
 use Rattle.std.specs.Prelude.{Some, None, Ok, Err}
-use Rattle.format.specs.Prelude.{pick, after, good, bad, onward, or_else}
+use Rattle.format.specs.Prelude.{pick, after, onward, or_else}
 use Rattle.format.specs.Coded.{result_of}
 use Rattle.format.specs.X64Reader.{header_ok, info_with, read_codes, read_info}
 use Rattle.format.proofs.Asked.{option_of, none_is, value_is}

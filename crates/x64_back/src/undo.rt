@@ -15,10 +15,12 @@ use x64_reader::{count, header_at, slots_in};
 
 // How many integer registers there are, and how many halves of as many vector registers.
 pub const INTEGERS: usize = 16;
+
 pub const VECTOR_HALVES: usize = 32;
 
 // The stack pointer's number, and the bytes of a word.
 const RSP: u64 = 4;
+
 const WORD: u64 = 8;
 
 // A thread's registers by their numbers in codes: the integer ones, and the vector ones as two halves each, the lower first.

@@ -1,5 +1,4 @@
 -- `x64_back::undo::Registers::base` meets its contract.
-use mathlib.Core.Path.{refl}
 use Rattle.format.specs.Prelude.{pick}
 use Rattle.x64_back.specs.Thread.{base_by}
 use Rattle.x64_back.proofs.Exits.{subtracted}

@@ -1,5 +1,4 @@
 -- `x64_back::undo::Registers::undo` meets its contract.
-use mathlib.Core.Path.{refl}
 use native.Mathlib.Omega.{arith}
 use Rattle.format.specs.X64.{register_in}
 use Rattle.rows.proofs.Signs.{passed}

@@ -1,5 +1,4 @@
 -- `x64_back::undo::Registers::undo_all` meets its contract.
-use mathlib.Core.Path.{◌∙◌}
 use Prim.Native.Nat.{◌+◌}
 use native.Mathlib.Omega.{arith}
 use lib.ListN.{drop}

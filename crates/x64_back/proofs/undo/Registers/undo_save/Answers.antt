@@ -1,5 +1,4 @@
 -- `x64_back::undo::Registers::undo_save` meets its contract.
-use mathlib.Core.Path.{refl}
 use Rattle.x64_back.specs.Thread.{undo_save}
 use Rattle.x64_back.proofs.Exits.{low_none, gives_none, gives, sum_none, sum_some}
 use Rattle.x64_back.proofs.undo.Registers.undo_save.Goals as goal
