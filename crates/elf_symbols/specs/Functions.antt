@@ -1,7 +1,7 @@
 -- The function symbol at an address (System V gABI, "Symbol Table"). Which of several is nearest the gABI leaves
 -- open: one that covers the address by its size goes before one without a size, and the one that begins last
 -- before others, as GNU's addr2line and gdb choose.
-use Rattle.std.specs.Prelude.{ℕ, zero, suc, ◌+◌, ◌-◌, ◌*◌, ◌%◌, List, Bool, true, false, not, ◌&&◌, ◌||◌, Option, Some, None, Result, Ok, Err, nat_le, nat_lt, ◌==◌, if◌then◌else◌}
+use Rattle.std.specs.Prelude.{◌≡◌, ◌<◌, ℕ, zero, suc, ◌+◌, ◌-◌, ◌*◌, ◌%◌, List, Bool, true, false, not, ◌&&◌, ◌||◌, Option, Some, None, Result, Ok, Err, nat_le, nat_lt, ◌==◌, if◌then◌else◌}
 use Rattle.std.specs.Int.{w16}
 use Rattle.elf.specs.declared.refusal.Reason.TheVariants.{NoEntry}
 use Rattle.elf.specs.declared.refusal.Refusal.{Refusal}
@@ -74,6 +74,16 @@ nearer (Some old) (Some new) = if is_nearer old new then Some new else Some old
 unfoldable pub nearest : (ℕ → Option Function) → (count i : ℕ) → Option Function → Option Function
 nearest p zero i found = found
 nearest p (suc n) i found = nearest p n (suc i) (nearer found (p i))
+
+-- one of so many was found, and none of them is nearer; or there is none
+abbrev pub IsNearest : (ℕ → Option Function) → (count : ℕ) → Option Function → Type 0
+IsNearest p count None = (j : ℕ) → j < count → p j ≡ None
+IsNearest p count (Some c) =
+    ((i : ℕ) × (i < count) × (p i ≡ Some c))
+    × ((j : ℕ) (d : Function) → j < count → p j ≡ Some d → is_nearer c d ≡ false)
+
+abbrev pub FindsNearest : Type 0
+FindsNearest = (p : ℕ → Option Function) (count : ℕ) → IsNearest p count (nearest p count 0 None)
 
 -- its symbol; else 107 at the table's end
 abbrev pub symbol_or_none : List ℕ → Symbols → Option Function → Result ElfSymbol Refusal
