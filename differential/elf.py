@@ -5,6 +5,7 @@
                                 and of section headers set to numbers near the limits
     elf.py COUNT SEED whole     every ELF file of /usr/bin and below /usr/lib and of the cross packages
     elf.py readelf              sections and segments of the same files as readelf lists them
+    elf.py addr2line COUNT SEED   the functions at addresses of COUNT of these files, by that program, as addr2line names them
 
 At the end stands how often each number was answered; 0 is an answer."""
 
@@ -562,7 +563,59 @@ def with_readelf():
     print(f"elf: {sections} sections and {segments} segments of {n} files are as readelf lists them")
 
 
+def named_functions(f, k):
+    """From a function's start to the names that begin there."""
+    names = collections.defaultdict(set)
+    for start, _, _, i in f.functions(k):
+        y = f.symbol(k, i)
+        names[start].add(f.data[y[3] : y[3] + y[4]].decode(errors="replace").split("@")[0])
+    return names
+
+
+def with_addr2line(count, seed):
+    """What our program finds begins where the function begins that addr2line names. It names none in some stripped files, and where
+    nothing covers an address the one in front."""
+    rng, asked, covered, n = random.Random(seed), 0, 0, 0
+    for path in rng.sample(list(files()), count):
+        f = File(whole(path)[1])
+        try:
+            kinds = [(f.entry(i)["sh_type"], i) for i in range(f.once("sections")[1])]
+            if f.once("header")["e_type"] not in (2, 3) or len(f.data) > 5000000:
+                continue
+        except Refused:
+            continue
+        tables = [i for kind, i in kinds if kind == 2] or [i for kind, i in kinds if kind == 11]
+        functions = f.functions(tables[0]) if tables else []
+        if not functions:
+            continue
+        names = named_functions(f, tables[0])
+        chosen = rng.sample(functions, min(len(functions), 40))
+        places = [a for start, size, _, _ in chosen for a in (start, start + size // 2, start + max(size, 1) - 1)]
+        # A copy that leads to no debugging information, whose functions have other names.
+        bare = os.path.join(OUT, "elf", "bare")
+        leads = [f"--remove-section={name}" for name in (".gnu_debuglink", ".note.gnu.build-id", ".debug_*")]
+        if subprocess.run(["objcopy", *leads, path, bare], capture_output=True).returncode:
+            continue
+        said = subprocess.run(["addr2line", "-f", "-e", bare, *map(hex, places)], capture_output=True, text=True, errors="replace").stdout.split("\n")[::2]
+        n += 1
+        for address, name in zip(places, said):
+            asked += 1
+            if name == "??":
+                continue
+            try:
+                y = f.function_at(tables[0], functions, 0, address)
+            except Refused:
+                continue
+            covered += 1
+            start = y[5] & ~1 if f.once("header")["e_machine"] == 40 else y[5]
+            if name.split("@")[0] not in names[start]:
+                sys.exit(f"elf: {path}: {address:#x}: addr2line says {name}, ours begins at {start:#x}: {sorted(names[start])[:5]}")
+    print(f"elf: {covered} of {asked} addresses in {n} files are in the function that addr2line names; it names none, or nothing covers the others")
+
+
 if sys.argv[1:] == ["readelf"]:
     with_readelf()
+elif sys.argv[1] == "addr2line":
+    with_addr2line(int(sys.argv[2]), int(sys.argv[3]))
 else:
     judged(int(sys.argv[1]), int(sys.argv[2]), sys.argv[3:] == ["whole"])
