@@ -5,7 +5,7 @@
     .ci/believed.py --write      write the table's line counts
     .ci/believed.py --of NAME    list what one definition (as Demanded) reaches
 
-Public entries are the `pub fn` of crates format, unwind, two_sections and walked_back and of the reader's module cursor, and every
+Public entries are the `pub fn` of crates format, unwind, two_sections, walked_back and elf_layout and of the reader's module cursor, and every
 `pub extern "C" fn` of a library; what a conversion of those crates promises (`ghost from_gives = { .. }`) counts as theirs. The names
 in their `requires` and `ensures` are followed, definition by definition, through the `ghost use` lines of the sources and the `use` lines of the definitions. It fails where a reached file is not in the table or stands in
 a proofs/ folder, where a file of the table is not reached, where a definition of crates/format/specs or crates/unwind/specs is not
@@ -14,7 +14,7 @@ libraries, and no other, with the parameters, the result and the clauses that it
 import os, re, sys
 
 ROOT = os.path.join(os.path.dirname(os.path.abspath(__file__)), '..')
-PUBLIC = ('format', 'unwind', 'two_sections', 'walked_back')
+PUBLIC = ('format', 'unwind', 'two_sections', 'walked_back', 'elf_layout')
 MODULES = ('crates/reader/src/cursor.rt',)
 WHOLE = ('crates/format/specs/', 'crates/unwind/specs/')
 DEMAND = 'Demanded'
