@@ -21,7 +21,8 @@ first_none p count i past = let e : count - i ≡ 0 = omega arith in rw e refl
 
 -- one more number is asked
 one_more : (p : ℕ → Bool) (n i : ℕ) (b : Bool) → p i ≡ b → ((j : ℕ) → j < i → p j ≡ false)
-    → (p i ≡ false → IsFirst p (suc i + n) (first p n (suc i))) → IsFirst p (suc i + n) (cond b (Some i) (first p n (suc i)))
+    → (p i ≡ false → IsFirst p (suc i + n) (first p n (suc i)))
+    → IsFirst p (suc i + n) (cond b (Some i) (first p n (suc i)))
 one_more p n i true e below rest = let lt : i < suc i + n = omega arith in (lt, e, below)
 one_more p n i false e below rest = rest e
 
@@ -30,9 +31,12 @@ unfolding first
 from p zero i below = λ j lt. below j (omega arith)
 from p (suc n) i below =
     let e : i + suc n ≡ suc i + n = omega arith in
-    rw e (one_more p n i (p i) refl below (λ fails. from p n (suc i) (λ j lt. below_more (λ k. p k ≡ false) i below fails j (omega arith))))
+    rw e (one_more p n i (p i) refl below (λ fails.
+    from p n (suc i) (λ j lt. below_more (λ k. p k ≡ false) i below fails j (omega arith))))
 
 pub finds_first : (p : ℕ → Bool) (count : ℕ) → IsFirst p count (first p count 0)
-finds_first p count = let e : 0 + count ≡ count = omega arith in rw e at (from p count 0 (λ j lt. absurd (omega arith)))
+finds_first p count =
+    let e : 0 + count ≡ count = omega arith in
+    rw e at (from p count 0 (λ j lt. absurd (omega arith)))
 
 pub ruleset search_steps = (first_here, first_later, first_none)

@@ -1,5 +1,5 @@
--- Notes, one after another (System V gABI, "Note Section"): three numbers, a name and a text, these padded to a
--- multiple of 4 bytes; or to one of 8, where their section or segment has that alignment, as of
+-- Notes, one after another (System V gABI, "Note Section"): three numbers, a name and a text, these padded
+-- to a multiple of 4 bytes; or to one of 8, where their section or segment has that alignment, as of
 -- .note.gnu.property.
 use Rattle.std.specs.Prelude.{ℕ, zero, suc, ◌+◌, ◌-◌, ◌*◌, ◌/◌, ◌≤◌, List, length, Bool, true, false, not, ◌&&◌, Result, Ok, Err, nat_le, nat_lt, ◌==◌, if◌then◌else◌, unwrap_or, min}
 use Rattle.std.specs.Int.{w32}

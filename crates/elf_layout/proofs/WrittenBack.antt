@@ -28,27 +28,37 @@ piece_length k n r le = length-take-le n (drop k r) (omega (arith, length-drop k
 -- a field is that of its own bytes
 own_2 : (r : List ℕ) (k : ℕ) → field w16 r k ≡ from_le_bytes w16 (piece r k 2)
 unfolding field
-own_2 r k = let e : k + 0 ≡ k = omega arith in sym (rw e at (field_at r k 2 0 w16 (omega arith) (omega arith)))
+own_2 r k =
+    let e : k + 0 ≡ k = omega arith in
+    sym (rw e at (field_at r k 2 0 w16 (omega arith) (omega arith)))
 
 own_4 : (r : List ℕ) (k : ℕ) → field w32 r k ≡ from_le_bytes w32 (piece r k 4)
 unfolding field
-own_4 r k = let e : k + 0 ≡ k = omega arith in sym (rw e at (field_at r k 4 0 w32 (omega arith) (omega arith)))
+own_4 r k =
+    let e : k + 0 ≡ k = omega arith in
+    sym (rw e at (field_at r k 4 0 w32 (omega arith) (omega arith)))
 
 own_8 : (r : List ℕ) (k : ℕ) → field w64 r k ≡ from_le_bytes w64 (piece r k 8)
 unfolding field
-own_8 r k = let e : k + 0 ≡ k = omega arith in sym (rw e at (field_at r k 8 0 w64 (omega arith) (omega arith)))
+own_8 r k =
+    let e : k + 0 ≡ k = omega arith in
+    sym (rw e at (field_at r k 8 0 w64 (omega arith) (omega arith)))
 
 back_2 : (r : List ℕ) (k : ℕ) → AreBytes r → k + 2 ≤ length r → to_le_bytes w16 (field w16 r k) ≡ piece r k 2
-back_2 r k h le = le_bytes_2 (piece r k 2) (field w16 r k) (piece_length k 2 r le) (piece_bytes k 2 r h) (own_2 r k)
+back_2 r k h le =
+    le_bytes_2 (piece r k 2) (field w16 r k) (piece_length k 2 r le) (piece_bytes k 2 r h) (own_2 r k)
 
 back_4 : (r : List ℕ) (k : ℕ) → AreBytes r → k + 4 ≤ length r → to_le_bytes w32 (field w32 r k) ≡ piece r k 4
-back_4 r k h le = le_bytes_4 (piece r k 4) (field w32 r k) (piece_length k 4 r le) (piece_bytes k 4 r h) (own_4 r k)
+back_4 r k h le =
+    le_bytes_4 (piece r k 4) (field w32 r k) (piece_length k 4 r le) (piece_bytes k 4 r h) (own_4 r k)
 
 back_8 : (r : List ℕ) (k : ℕ) → AreBytes r → k + 8 ≤ length r → to_le_bytes w64 (field w64 r k) ≡ piece r k 8
-back_8 r k h le = le_bytes_8 (piece r k 8) (field w64 r k) (piece_length k 8 r le) (piece_bytes k 8 r h) (own_8 r k)
+back_8 r k h le =
+    le_bytes_8 (piece r k 8) (field w64 r k) (piece_length k 8 r le) (piece_bytes k 8 r h) (own_8 r k)
 
 -- the bytes in front, and one field more
-more : (front bytes r : List ℕ) (k n : ℕ) → front ≡ take k r → bytes ≡ piece r k n → front ++ bytes ≡ take (k + n) r
+more : (front bytes r : List ℕ) (k n : ℕ) → front ≡ take k r
+    → bytes ≡ piece r k n → front ++ bytes ≡ take (k + n) r
 more front bytes r k n e f = rw (take-add k n r, e, f) refl
 
 then_2 : (front r : List ℕ) (k : ℕ) → AreBytes r → k + 2 ≤ length r → front ≡ take k r

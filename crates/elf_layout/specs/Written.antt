@@ -1,4 +1,5 @@
--- The structures of the System V gABI ("Sections", "Program Header", "Symbol Table"), written field by field in their order.
+-- The structures of the System V gABI ("Sections", "Program Header", "Symbol Table"), written field by
+-- field in their order.
 use Rattle.std.specs.Prelude.{◌≡◌, ℕ, ◌<◌, List, [], ◌∷◌, ◌++◌, length, get_or}
 use Rattle.std.specs.Int.{w16, w32, w64, to_le_bytes}
 use Rattle.elf.specs.declared.«class».Class.{Class}
@@ -33,11 +34,11 @@ section_bytes c e =
 -- Elf32_Phdr and Elf64_Phdr, whose flags stand elsewhere
 abbrev pub segment_bytes : Class → ElfSegment → List ℕ
 segment_bytes Bits32 s =
-    word s.kind ++ word s.place ++ word s.address ++ word s.physical ++ word s.size ++ word s.memory ++ word s.flags
-    ++ word s.align
+    word s.kind ++ word s.place ++ word s.address ++ word s.physical ++ word s.size ++ word s.memory
+    ++ word s.flags ++ word s.align
 segment_bytes Bits64 s =
-    word s.kind ++ word s.flags ++ to_le_bytes w64 s.place ++ to_le_bytes w64 s.address ++ to_le_bytes w64 s.physical
-    ++ to_le_bytes w64 s.size ++ to_le_bytes w64 s.memory ++ to_le_bytes w64 s.align
+    word s.kind ++ word s.flags ++ to_le_bytes w64 s.place ++ to_le_bytes w64 s.address
+    ++ to_le_bytes w64 s.physical ++ to_le_bytes w64 s.size ++ to_le_bytes w64 s.memory ++ to_le_bytes w64 s.align
 
 -- Elf32_Sym and Elf64_Sym
 abbrev pub symbol_bytes : Class → SymbolEntry → List ℕ

@@ -32,33 +32,45 @@ same_one p i d x e f = cc
 nearer_one : (p : ℕ → Option Function) (i : ℕ) (c d : Function) (b : Bool) → is_nearer c d ≡ b → p i ≡ Some d
     → IsNearest p i (Some c) → IsNearest p (suc i) (cond b (Some d) (Some c))
 nearer_one p i c d true far e h =
-    let last : i < suc i = omega arith in
-    ((i, last, e), λ j x lt is. below_more (λ k. (y : Function) → p k ≡ Some y → is_nearer d y ≡ false) i
-        (λ k below y at_k. beyond c d y far (h.1 k y below at_k))
-        (λ y at_i. subst (λ z. is_nearer d z ≡ false) (same_one p i d y e at_i) (no_nearer d))
-        j (omega arith) x is)
+    let last : i < suc i = omega arith in (
+      (i, last, e),
+      λ j x lt is. below_more
+          (λ k. (y : Function) → p k ≡ Some y → is_nearer d y ≡ false) i
+          (λ k below y at_k. beyond c d y far (h.1 k y below at_k))
+          (λ y at_i. subst (λ z. is_nearer d z ≡ false) (same_one p i d y e at_i) (no_nearer d))
+          j (omega arith) x is,
+    )
 nearer_one p i c d false near e h =
-    let lt : h.0.0 < suc i = let below = h.0.1 in omega (arith, below) in
-    ((h.0.0, lt, h.0.2), λ j x lt is. below_more (λ k. (y : Function) → p k ≡ Some y → is_nearer c y ≡ false) i
-        (λ k below y at_k. h.1 k y below at_k)
-        (λ y at_i. subst (λ z. is_nearer c z ≡ false) (same_one p i d y e at_i) near)
-        j (omega arith) x is)
+    let lt : h.0.0 < suc i = let below = h.0.1 in omega (arith, below) in (
+      (h.0.0, lt, h.0.2),
+      λ j x lt is. below_more
+          (λ k. (y : Function) → p k ≡ Some y → is_nearer c y ≡ false) i
+          (λ k below y at_k. h.1 k y below at_k)
+          (λ y at_i. subst (λ z. is_nearer c z ≡ false) (same_one p i d y e at_i) near)
+          j (omega arith) x is,
+    )
 
 step : (p : ℕ → Option Function) (i : ℕ) (found new : Option Function) → p i ≡ new → IsNearest p i found
     → IsNearest p (suc i) (nearer found new)
 step p i None None e h = λ j lt. below_more (λ k. p k ≡ None) i h e j (omega arith)
 step p i None (Some d) e h =
-    let last : i < suc i = omega arith in
-    ((i, last, e), λ j x lt is. below_more (λ k. (y : Function) → p k ≡ Some y → is_nearer d y ≡ false) i
-        (λ k below y at_k. let none : p k ≡ None = h k below in cc)
-        (λ y at_i. subst (λ z. is_nearer d z ≡ false) (same_one p i d y e at_i) (no_nearer d))
-        j (omega arith) x is)
+    let last : i < suc i = omega arith in (
+      (i, last, e),
+      λ j x lt is. below_more
+          (λ k. (y : Function) → p k ≡ Some y → is_nearer d y ≡ false) i
+          (λ k below y at_k. let none : p k ≡ None = h k below in cc)
+          (λ y at_i. subst (λ z. is_nearer d z ≡ false) (same_one p i d y e at_i) (no_nearer d))
+          j (omega arith) x is,
+    )
 step p i (Some c) None e h =
-    let lt : h.0.0 < suc i = let below = h.0.1 in omega (arith, below) in
-    ((h.0.0, lt, h.0.2), λ j x lt is. below_more (λ k. (y : Function) → p k ≡ Some y → is_nearer c y ≡ false) i
-        (λ k below y at_k. h.1 k y below at_k)
-        (λ y at_i. cc)
-        j (omega arith) x is)
+    let lt : h.0.0 < suc i = let below = h.0.1 in omega (arith, below) in (
+      (h.0.0, lt, h.0.2),
+      λ j x lt is. below_more
+          (λ k. (y : Function) → p k ≡ Some y → is_nearer c y ≡ false) i
+          (λ k below y at_k. h.1 k y below at_k)
+          (λ y at_i. cc)
+          j (omega arith) x is,
+    )
 step p i (Some c) (Some d) e h = nearer_one p i c d (is_nearer c d) refl e h
 
 from : (p : ℕ → Option Function) (n i : ℕ) (found : Option Function) → IsNearest p i found

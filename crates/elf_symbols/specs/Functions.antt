@@ -1,6 +1,6 @@
--- The function symbol at an address (System V gABI, "Symbol Table"). Which of several is nearest the gABI leaves
--- open: one that covers the address by its size goes before one without a size, and the one that begins last
--- before others, as GNU's addr2line and gdb choose.
+-- The function symbol at an address (System V gABI, "Symbol Table"). Which of several is nearest the gABI
+-- leaves open: one that covers the address by its size goes before one without a size, and the one that
+-- begins last before others, as GNU's addr2line and gdb choose.
 use Rattle.std.specs.Prelude.{◌≡◌, ◌<◌, ℕ, zero, suc, ◌+◌, ◌-◌, ◌*◌, ◌%◌, List, Bool, true, false, not, ◌&&◌, ◌||◌, Option, Some, None, Result, Ok, Err, nat_le, nat_lt, ◌==◌, if◌then◌else◌}
 use Rattle.std.specs.Int.{w16}
 use Rattle.elf.specs.declared.refusal.Reason.TheVariants.{NoEntry}
@@ -22,8 +22,8 @@ use Rattle.elf_symbols.specs.Symbols.{kind_of, symbol_size, symbols_of, entry_at
 abbrev pub is_function : SymbolEntry → Bool
 is_function e = (kind_of e == 2) || (kind_of e == 10)
 
--- where its code begins: on EM_ARM bit 0 of a function's value is the Thumb mark (ELF for the Arm Architecture,
--- "Symbol Values")
+-- where its code begins: on EM_ARM bit 0 of a function's value is the Thumb mark (ELF for the Arm
+-- Architecture, "Symbol Values")
 abbrev pub start_of : (machine : ℕ) → SymbolEntry → ℕ
 start_of machine e = if machine == 40 then e.value - e.value % 2 else e.value
 

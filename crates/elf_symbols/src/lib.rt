@@ -1,5 +1,5 @@
-// What tables in sections of an ELF file hold: symbols and relocations (System V gABI), and the function at an
-// address.
+// What tables in sections of an ELF file hold: symbols and relocations (System V gABI), and the function at
+// an address.
 #![tactic(auto)]
 
 pub mod entries;
