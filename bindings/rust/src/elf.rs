@@ -429,23 +429,19 @@ impl<'a> Elf<'a> {
         // SAFETY: the pointer and the count are a slice's.
         let said = unsafe { sys::unwind_elf_relocation(self.bytes.as_ptr(), self.bytes.len(), table, index) };
         accepted(said.number, said.at)?;
-        let addend = (said.has_addend == 1).then_some(said.addend.cast_signed());
+        let addend = (said.has_addend == 1).then_some(said.addend as i64);
         Ok(Relocation { index: said.index, place: said.place, symbol: said.symbol, kind: said.kind, addend })
     }
 
     /// The relocations of the table in a section; a refusal is the last.
-    pub fn relocations(&self, table: u64) -> impl Iterator<Item = Result<Relocation, Refusal>> {
+    pub fn relocations(&self, table: u64) -> impl Iterator<Item = Result<Relocation, Refusal>> + use<'a> {
         let file = *self;
         entries(move |index| file.relocation(table, index))
     }
 
     fn note_of(&self, said: &sys::ElfNote) -> Result<Note<'a>, Refusal> {
         accepted(said.number, said.at)?;
-        Ok(Note {
-            kind: said.kind,
-            name: self.part(said.name, said.name_length),
-            text: self.part(said.text, said.text_length),
-        })
+        Ok(Note { kind: said.kind, name: self.part(said.name, said.name_length), text: self.part(said.text, said.text_length) })
     }
 
     /// The notes from a place on, of a section or a segment with an alignment; a refusal is the last.

@@ -35,26 +35,28 @@ class_of file =
 
 -- e_type, e_machine, e_flags, e_entry
 abbrev pub header_of : Class → List ℕ → ElfHeader
-header_of c file = record {
-  number = 0;
-  at = 0;
-  class_bits = by_class c 32 64;
-  kind = field w16 file 16;
-  machine = field w16 file 18;
-  flags = field w32 file (by_class c 36 48);
-  entry = word c file 24;
-}
+header_of c file =
+    record {
+      number = 0;
+      at = 0;
+      class_bits = by_class c 32 64;
+      kind = field w16 file 16;
+      machine = field w16 file 18;
+      flags = field w32 file (by_class c 36 48);
+      entry = word c file 24;
+    }
 
 abbrev pub refused_header : Refusal → ElfHeader
-refused_header r = record {
-  number = reason_number r.reason;
-  at = r.place;
-  class_bits = 0;
-  kind = 0;
-  machine = 0;
-  flags = 0;
-  entry = 0;
-}
+refused_header r =
+    record {
+      number = reason_number r.reason;
+      at = r.place;
+      class_bits = 0;
+      kind = 0;
+      machine = 0;
+      flags = 0;
+      entry = 0;
+    }
 
 abbrev pub header_or : List ℕ → Result Class Refusal → ElfHeader
 header_or file (Ok c) = header_of c file

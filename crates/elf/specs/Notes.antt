@@ -1,5 +1,5 @@
--- Notes, one after another (System V gABI, "Note Section"): three numbers, a name and a text, these padded to a
--- multiple of 4 bytes; or to one of 8, where their section or segment has that alignment, as of
+-- Notes, one after another (System V gABI, "Note Section"): three numbers, a name and a text, these padded
+-- to a multiple of 4 bytes; or to one of 8, where their section or segment has that alignment, as of
 -- .note.gnu.property.
 use Rattle.std.specs.Prelude.{ℕ, zero, suc, ◌+◌, ◌-◌, ◌*◌, ◌/◌, ◌≤◌, List, length, Bool, true, false, not, ◌&&◌, Result, Ok, Err, nat_le, nat_lt, ◌==◌, if◌then◌else◌, unwrap_or, min}
 use Rattle.std.specs.Int.{w32}
@@ -31,16 +31,17 @@ abbrev pub through_text : (eight : Bool) → List ℕ → (place : ℕ) → ℕ
 through_text eight file place = before_text eight file place + field w32 file (place + 4)
 
 abbrev pub note_numbers : (eight : Bool) → List ℕ → (place end : ℕ) → ElfNote
-note_numbers eight file place end = record {
-  number = 0;
-  at = 0;
-  kind = field w32 file (place + 8);
-  name = place + 12;
-  name_length = name_length (piece file (place + 12) (field w32 file place));
-  text = place + before_text eight file place;
-  text_length = field w32 file (place + 4);
-  next = place + min (padded eight (through_text eight file place)) (end - place);
-}
+note_numbers eight file place end =
+    record {
+      number = 0;
+      at = 0;
+      kind = field w32 file (place + 8);
+      name = place + 12;
+      name_length = name_length (piece file (place + 12) (field w32 file place));
+      text = place + before_text eight file place;
+      text_length = field w32 file (place + 4);
+      next = place + min (padded eight (through_text eight file place)) (end - place);
+    }
 
 -- name and text lie in front of an end, and so does the next note
 abbrev pub NoteLiesIn : (size : ℕ) → ElfNote → Type 0
@@ -83,16 +84,17 @@ note_named file place end align name kind =
 
 -- for C
 abbrev pub refused_note : Refusal → ElfNote
-refused_note r = record {
-  number = reason_number r.reason;
-  at = r.place;
-  kind = 0;
-  name = 0;
-  name_length = 0;
-  text = 0;
-  text_length = 0;
-  next = 0;
-}
+refused_note r =
+    record {
+      number = reason_number r.reason;
+      at = r.place;
+      kind = 0;
+      name = 0;
+      name_length = 0;
+      text = 0;
+      text_length = 0;
+      next = 0;
+    }
 
 abbrev pub note_answer : Result ElfNote Refusal → ElfNote
 note_answer (Ok n) = n

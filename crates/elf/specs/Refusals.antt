@@ -21,8 +21,8 @@ refuse reason place = Err (record { reason = reason; place = place })
 -- what follows from what was read; else its refusal
 infixl 10 ◌>>=◌
 abbrev pub ◌>>=◌ : {A B : Type 0} → Result A Refusal → (A → Result B Refusal) → Result B Refusal
-(Ok x) >>= f = f x
-(Err e) >>= f = Err e
+◌>>=◌ (Ok x) f = f x
+◌>>=◌ (Err e) f = Err e
 
 -- what a function returned, seen by a view, is what a definition gives
 abbrev pub Gives : {X Y : Type 0} → (X → Y) → Result X Refusal → Result Y Refusal → Type 0

@@ -70,24 +70,25 @@ bit b = if b then 1 else 0
 
 abbrev pub section_numbers :
     (index : ℕ) → SectionEntry → (name bytes : Span) → (compressed : Bool) → ElfSection
-section_numbers index e name bytes compressed = record {
-  number = 0;
-  at = 0;
-  index = index;
-  name = name.place;
-  name_length = name.length;
-  kind = e.kind;
-  flags = e.flags;
-  address = e.address;
-  place = e.place;
-  size = e.size;
-  length = bytes.length;
-  link = e.link;
-  info = e.info;
-  align = e.align;
-  entry_size = e.entry_size;
-  compressed = bit compressed;
-}
+section_numbers index e name bytes compressed =
+    record {
+      number = 0;
+      at = 0;
+      index = index;
+      name = name.place;
+      name_length = name.length;
+      kind = e.kind;
+      flags = e.flags;
+      address = e.address;
+      place = e.place;
+      size = e.size;
+      length = bytes.length;
+      link = e.link;
+      info = e.info;
+      align = e.align;
+      entry_size = e.entry_size;
+      compressed = bit compressed;
+    }
 
 -- the name lies in the file, and so do the bytes, where there are some
 abbrev pub SectionLiesIn : (size : ℕ) → ElfSection → Type 0
@@ -125,24 +126,25 @@ unfoldable pub section_named : List ℕ → (wanted : List ℕ) → Result ElfSe
 section_named file wanted = file_sections file >>= λ t. named_in file t wanted
 
 abbrev pub refused_section : Refusal → ElfSection
-refused_section r = record {
-  number = reason_number r.reason;
-  at = r.place;
-  index = 0;
-  name = 0;
-  name_length = 0;
-  kind = 0;
-  flags = 0;
-  address = 0;
-  place = 0;
-  size = 0;
-  length = 0;
-  link = 0;
-  info = 0;
-  align = 0;
-  entry_size = 0;
-  compressed = 0;
-}
+refused_section r =
+    record {
+      number = reason_number r.reason;
+      at = r.place;
+      index = 0;
+      name = 0;
+      name_length = 0;
+      kind = 0;
+      flags = 0;
+      address = 0;
+      place = 0;
+      size = 0;
+      length = 0;
+      link = 0;
+      info = 0;
+      align = 0;
+      entry_size = 0;
+      compressed = 0;
+    }
 
 abbrev pub section_answer : Result ElfSection Refusal → ElfSection
 section_answer (Ok s) = s

@@ -80,19 +80,20 @@ file_sections file = class_of file >>= λ c. sections_of c file
 
 -- what the entry says that stands at a place of the file: Elf32_Shdr and Elf64_Shdr
 abbrev pub entry_in : Class → (at : ℕ) → List ℕ → SectionEntry
-entry_in c at r = record {
-  at = at;
-  name = field w32 r 0;
-  kind = field w32 r 4;
-  flags = word c r 8;
-  address = word c r (by_class c 12 16);
-  place = word c r (by_class c 16 24);
-  size = word c r (by_class c 20 32);
-  link = field w32 r (by_class c 24 40);
-  info = field w32 r (by_class c 28 44);
-  align = word c r (by_class c 32 48);
-  entry_size = word c r (by_class c 36 56);
-}
+entry_in c at r =
+    record {
+      at = at;
+      name = field w32 r 0;
+      kind = field w32 r 4;
+      flags = word c r 8;
+      address = word c r (by_class c 12 16);
+      place = word c r (by_class c 16 24);
+      size = word c r (by_class c 20 32);
+      link = field w32 r (by_class c 24 40);
+      info = field w32 r (by_class c 28 44);
+      align = word c r (by_class c 32 48);
+      entry_size = word c r (by_class c 36 56);
+    }
 
 unfoldable pub entry_at : List ℕ → Sections → (index : ℕ) → Result SectionEntry Refusal
 entry_at file t i =

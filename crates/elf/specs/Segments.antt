@@ -43,8 +43,8 @@ unfoldable pub count_of : Class → List ℕ → Result ℕ Refusal
 count_of c file =
     if field w16 file (phnum c) == 65535 then first_info c file else Ok (field w16 file (phnum c))
 
-abbrev pub inside : Segments → List ℕ → Result Segments Refusal
-inside t file = if is_inside (table_in t) (length file) then Ok t else refuse Outside (phoff t.«class»)
+abbrev pub checked : Segments → List ℕ → Result Segments Refusal
+checked t file = if is_inside (table_in t) (length file) then Ok t else refuse Outside (phoff t.«class»)
 
 -- a file whose e_phoff is 0 has no segments
 unfoldable pub segments_of : Class → List ℕ → Result Segments Refusal
@@ -52,7 +52,7 @@ segments_of c file =
     if word c file (phoff c) == 0 then Ok (record { «class» = c; place = 0; count = 0 })
     else if not (field w16 file (phentsize c) == segment_size c) then refuse EntrySize (phentsize c)
     else count_of c file >>= λ count.
-    inside (record { «class» = c; place = word c file (phoff c); count = count }) file
+    checked (record { «class» = c; place = word c file (phoff c); count = count }) file
 
 unfoldable pub file_segments : List ℕ → Result Segments Refusal
 file_segments file = class_of file >>= λ c. segments_of c file
@@ -77,20 +77,21 @@ SegmentLiesIn size s = 0 < s.length → s.place + s.length ≤ size
 
 -- what an entry says in a file of a size: Elf32_Phdr and Elf64_Phdr; a file may be cut off, and has the rest
 abbrev pub segment_in : Class → (index size : ℕ) → List ℕ → ElfSegment
-segment_in c index size r = record {
-  number = 0;
-  at = 0;
-  index = index;
-  kind = field w32 r 0;
-  flags = field w32 r (by_class c 24 4);
-  place = word c r (by_class c 4 8);
-  address = word c r (by_class c 8 16);
-  physical = word c r (by_class c 12 24);
-  size = word c r (by_class c 16 32);
-  memory = word c r (by_class c 20 40);
-  align = word c r (by_class c 28 48);
-  length = min (word c r (by_class c 16 32)) (size - word c r (by_class c 4 8));
-}
+segment_in c index size r =
+    record {
+      number = 0;
+      at = 0;
+      index = index;
+      kind = field w32 r 0;
+      flags = field w32 r (by_class c 24 4);
+      place = word c r (by_class c 4 8);
+      address = word c r (by_class c 8 16);
+      physical = word c r (by_class c 12 24);
+      size = word c r (by_class c 16 32);
+      memory = word c r (by_class c 20 40);
+      align = word c r (by_class c 28 48);
+      length = min (word c r (by_class c 16 32)) (size - word c r (by_class c 4 8));
+    }
 
 unfoldable pub segment_at : List ℕ → (index : ℕ) → Result ElfSegment Refusal
 segment_at file i =
@@ -98,20 +99,21 @@ segment_at file i =
     Ok (segment_in t.«class» i (length file) r)
 
 abbrev pub refused_segment : Refusal → ElfSegment
-refused_segment r = record {
-  number = reason_number r.reason;
-  at = r.place;
-  index = 0;
-  kind = 0;
-  flags = 0;
-  place = 0;
-  address = 0;
-  physical = 0;
-  size = 0;
-  memory = 0;
-  align = 0;
-  length = 0;
-}
+refused_segment r =
+    record {
+      number = reason_number r.reason;
+      at = r.place;
+      index = 0;
+      kind = 0;
+      flags = 0;
+      place = 0;
+      address = 0;
+      physical = 0;
+      size = 0;
+      memory = 0;
+      align = 0;
+      length = 0;
+    }
 
 abbrev pub segment_answer : Result ElfSegment Refusal → ElfSegment
 segment_answer (Ok s) = s

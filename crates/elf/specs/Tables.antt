@@ -1,5 +1,5 @@
--- Tables in a file: entries of one size, one after another. Sections, segments, symbols and relocations stand in
--- such tables.
+-- Tables in a file: entries of one size, one after another. Sections, segments, symbols and relocations
+-- stand in such tables.
 use Rattle.std.specs.Prelude.{◌≡◌, ℕ, zero, suc, ◌+◌, ◌*◌, ◌<◌, ◌≤◌, Bool, List, [], ◌∷◌, length, Option, Some, None, Result, Ok, slice_get, nat_le}
 use Rattle.std.specs.List.{concat}
 use Rattle.std.specs.Int.{Width, byte_len}

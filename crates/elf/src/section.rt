@@ -297,11 +297,11 @@ fn refused(refusal: Refusal) -> ElfSection
     }
 }
 
-/// The section at an index, or a refusal by 101 to 107.
+/// The section at an index, or a refusal by 101 to 107. Its name and its bytes can be read where it says,
+/// also after a refusal.
 #[unsafe(no_mangle)]
 pub extern "C" fn unwind_elf_section(file: &[u8], index: u64) -> ElfSection
     ensures value { result ≡ section_answer (section_at file.now index) }
-    // Its name and its bytes can be read where it says, also after a refusal.
     ensures inside { SectionLiesIn (length file.now) result }
 {
     match section_at(file, index) {

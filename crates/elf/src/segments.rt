@@ -2,7 +2,7 @@
 
 ghost use Rattle.std.specs.Prelude.{◌≡◌, ◌-◌, ◌≤◌, length, min, true, IfOk};
 ghost use Rattle.elf.specs.Header.{header_size};
-ghost use Rattle.elf.specs.Segments.{segment_size, phoff, table_in, first_info, count_of, inside, segments_of, file_segments, segments_answer, segments_numbers, refused_segments, SegmentLiesIn, segment_in, segment_at, refused_segment, segment_answer};
+ghost use Rattle.elf.specs.Segments.{segment_size, phoff, table_in, first_info, count_of, checked, segments_of, file_segments, segments_answer, segments_numbers, refused_segments, SegmentLiesIn, segment_in, segment_at, refused_segment, segment_answer};
 ghost use Rattle.elf.specs.Tables.{is_inside};
 
 use crate::class::Class;
@@ -67,8 +67,8 @@ fn count(class: Class, file: &[u8]) -> Result<u64, Refusal>
     }
 }
 
-fn inside(segments: Segments, file: &[u8]) -> Result<Segments, Refusal>
-    ensures value { result ≡ inside segments file.now }
+fn checked(segments: Segments, file: &[u8]) -> Result<Segments, Refusal>
+    ensures value { result ≡ checked segments file.now }
     ensures inside { IfOk result (λ t. is_inside (table_in t) (length file.now) ≡ true) }
 {
     if segments.table().is_inside(file.len() as u64) {
@@ -96,7 +96,7 @@ fn segments_of(class: Class, file: &[u8]) -> Result<Segments, Refusal>
         return Err(Refusal::new(Reason::EntrySize, class.pick(42, 54) as u64));
     }
     let count = count(class, file)?;
-    inside(
+    checked(
         Segments {
             class,
             place,
@@ -228,11 +228,11 @@ fn refused_segment(refusal: Refusal) -> ElfSegment
     }
 }
 
-/// The segment at an index, or a refusal by 101 to 103, 105 or 107.
+/// The segment at an index, or a refusal by 101 to 103, 105 or 107. The bytes that the file has of it can be
+/// read where it says, also after a refusal.
 #[unsafe(no_mangle)]
 pub extern "C" fn unwind_elf_segment(file: &[u8], index: u64) -> ElfSegment
     ensures value { result ≡ segment_answer (segment_at file.now index) }
-    // The bytes that the file has of it can be read where it says, also after a refusal.
     ensures inside { SegmentLiesIn (length file.now) result }
 {
     match segment_at(file, index) {

@@ -59,8 +59,8 @@ impl Table {
     }
 }
 
-/// A table has its entries, each of its size, and they are all of its bytes; a field of an entry is a field of
-/// the file.
+/// A table has its entries, each of its size, and they are all of its bytes; a field of an entry is a field
+/// of the file.
 #[tactic(auto, using(crate::proofs::Tables::table_laws))]
 pub fn table_law()
     ensures get { HasEntries }

@@ -1,7 +1,7 @@
--- The function symbol at an address (System V gABI, "Symbol Table"). Which of several is nearest the gABI leaves
--- open: one that covers the address by its size goes before one without a size, and the one that begins last
--- before others, as GNU's addr2line and gdb choose.
-use Rattle.std.specs.Prelude.{ℕ, zero, suc, ◌+◌, ◌-◌, ◌*◌, ◌%◌, List, Bool, true, false, not, ◌&&◌, ◌||◌, Option, Some, None, Result, Ok, Err, nat_le, nat_lt, ◌==◌, if◌then◌else◌}
+-- The function symbol at an address (System V gABI, "Symbol Table"). Which of several is nearest the gABI
+-- leaves open: one that covers the address by its size goes before one without a size, and the one that
+-- begins last before others, as GNU's addr2line and gdb choose.
+use Rattle.std.specs.Prelude.{◌≡◌, ◌<◌, ℕ, zero, suc, ◌+◌, ◌-◌, ◌*◌, ◌%◌, List, Bool, true, false, not, ◌&&◌, ◌||◌, Option, Some, None, Result, Ok, Err, nat_le, nat_lt, ◌==◌, if◌then◌else◌}
 use Rattle.std.specs.Int.{w16}
 use Rattle.elf.specs.declared.refusal.Reason.TheVariants.{NoEntry}
 use Rattle.elf.specs.declared.refusal.Refusal.{Refusal}
@@ -22,8 +22,8 @@ use Rattle.elf_symbols.specs.Symbols.{kind_of, symbol_size, symbols_of, entry_at
 abbrev pub is_function : SymbolEntry → Bool
 is_function e = (kind_of e == 2) || (kind_of e == 10)
 
--- where its code begins: on EM_ARM bit 0 of a function's value is the Thumb mark (ELF for the Arm Architecture,
--- "Symbol Values")
+-- where its code begins: on EM_ARM bit 0 of a function's value is the Thumb mark (ELF for the Arm
+-- Architecture, "Symbol Values")
 abbrev pub start_of : (machine : ℕ) → SymbolEntry → ℕ
 start_of machine e = if machine == 40 then e.value - e.value % 2 else e.value
 
@@ -74,6 +74,16 @@ nearer (Some old) (Some new) = if is_nearer old new then Some new else Some old
 unfoldable pub nearest : (ℕ → Option Function) → (count i : ℕ) → Option Function → Option Function
 nearest p zero i found = found
 nearest p (suc n) i found = nearest p n (suc i) (nearer found (p i))
+
+-- one of so many was found, and none of them is nearer; or there is none
+abbrev pub IsNearest : (ℕ → Option Function) → (count : ℕ) → Option Function → Type 0
+IsNearest p count None = (j : ℕ) → j < count → p j ≡ None
+IsNearest p count (Some c) =
+    ((i : ℕ) × (i < count) × (p i ≡ Some c))
+    × ((j : ℕ) (d : Function) → j < count → p j ≡ Some d → is_nearer c d ≡ false)
+
+abbrev pub FindsNearest : Type 0
+FindsNearest = (p : ℕ → Option Function) (count : ℕ) → IsNearest p count (nearest p count 0 None)
 
 -- its symbol; else 107 at the table's end
 abbrev pub symbol_or_none : List ℕ → Symbols → Option Function → Result ElfSymbol Refusal

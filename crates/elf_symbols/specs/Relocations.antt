@@ -50,16 +50,17 @@ kind_of c info = if is_wide c then info % 2 ^ 32 else info % 2 ^ 8
 
 -- what an entry says
 abbrev pub relocation_in : Relocations → (index : ℕ) → List ℕ → ElfRelocation
-relocation_in t index r = record {
-  number = 0;
-  at = 0;
-  index = index;
-  place = word t.«class» r 0;
-  symbol = symbol_of t.«class» (word t.«class» r (by_class t.«class» 4 8));
-  kind = kind_of t.«class» (word t.«class» r (by_class t.«class» 4 8));
-  addend = addend_in t r;
-  has_addend = bit t.addends;
-}
+relocation_in t index r =
+    record {
+      number = 0;
+      at = 0;
+      index = index;
+      place = word t.«class» r 0;
+      symbol = symbol_of t.«class» (word t.«class» r (by_class t.«class» 4 8));
+      kind = kind_of t.«class» (word t.«class» r (by_class t.«class» 4 8));
+      addend = addend_in t r;
+      has_addend = bit t.addends;
+    }
 
 unfoldable pub relocation_at : List ℕ → (section index : ℕ) → Result ElfRelocation Refusal
 relocation_at file k i =

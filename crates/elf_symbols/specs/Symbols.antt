@@ -43,15 +43,16 @@ symbols_of file t k =
 
 -- what the entry says that stands at a place of the file: Elf32_Sym and Elf64_Sym
 abbrev pub entry_in : Class → (at : ℕ) → List ℕ → SymbolEntry
-entry_in c at r = record {
-  at = at;
-  name = field w32 r 0;
-  value = word c r (by_class c 4 8);
-  size = word c r (by_class c 8 16);
-  info = slice_index r (by_class c 12 4);
-  other = slice_index r (by_class c 13 5);
-  section = field w16 r (by_class c 14 6);
-}
+entry_in c at r =
+    record {
+      at = at;
+      name = field w32 r 0;
+      value = word c r (by_class c 4 8);
+      size = word c r (by_class c 8 16);
+      info = slice_index r (by_class c 12 4);
+      other = slice_index r (by_class c 13 5);
+      section = field w16 r (by_class c 14 6);
+    }
 
 unfoldable pub entry_at : List ℕ → Symbols → (index : ℕ) → Result SymbolEntry Refusal
 entry_at file s i =
@@ -69,19 +70,20 @@ visibility_of e = e.other % 4
 
 -- for C
 abbrev pub symbol_numbers : (index : ℕ) → SymbolEntry → (name : Span) → ElfSymbol
-symbol_numbers index e name = record {
-  number = 0;
-  at = 0;
-  index = index;
-  name = name.place;
-  name_length = name.length;
-  value = e.value;
-  size = e.size;
-  kind = kind_of e;
-  binding = binding_of e;
-  visibility = visibility_of e;
-  section = e.section;
-}
+symbol_numbers index e name =
+    record {
+      number = 0;
+      at = 0;
+      index = index;
+      name = name.place;
+      name_length = name.length;
+      value = e.value;
+      size = e.size;
+      kind = kind_of e;
+      binding = binding_of e;
+      visibility = visibility_of e;
+      section = e.section;
+    }
 
 -- the name lies in the file
 abbrev pub SymbolLiesIn : (size : ℕ) → ElfSymbol → Type 0
@@ -96,19 +98,20 @@ unfoldable pub symbol_at : List ℕ → (section index : ℕ) → Result ElfSymb
 symbol_at file k i = file_sections file >>= λ t. symbols_of file t k >>= λ s. symbol_in file s i
 
 abbrev pub refused_symbol : Refusal → ElfSymbol
-refused_symbol r = record {
-  number = reason_number r.reason;
-  at = r.place;
-  index = 0;
-  name = 0;
-  name_length = 0;
-  value = 0;
-  size = 0;
-  kind = 0;
-  binding = 0;
-  visibility = 0;
-  section = 0;
-}
+refused_symbol r =
+    record {
+      number = reason_number r.reason;
+      at = r.place;
+      index = 0;
+      name = 0;
+      name_length = 0;
+      value = 0;
+      size = 0;
+      kind = 0;
+      binding = 0;
+      visibility = 0;
+      section = 0;
+    }
 
 abbrev pub symbol_answer : Result ElfSymbol Refusal → ElfSymbol
 symbol_answer (Ok s) = s

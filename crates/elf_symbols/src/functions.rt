@@ -3,7 +3,7 @@
 ghost use Rattle.std.specs.Prelude.{◌≡◌, ◌^◌, ◌<◌, length, true, IfOk, None};
 ghost use Rattle.elf.specs.Sections.{table_in};
 ghost use Rattle.elf.specs.Tables.{is_inside};
-ghost use Rattle.elf_symbols.specs.Functions.{is_function, start_of, stands_in, section_covers, covers, is_nearer, nearer, covering, nearest, function_in, function_at};
+ghost use Rattle.elf_symbols.specs.Functions.{is_function, start_of, stands_in, section_covers, covers, is_nearer, nearer, covering, nearest, FindsNearest, function_in, function_at};
 ghost use Rattle.elf_symbols.specs.Symbols.{SymbolsLieIn, SymbolLiesIn, symbol_answer};
 
 use crate::symbols::{ElfSymbol, SymbolEntry, Symbols, refused, symbols_of};
@@ -212,6 +212,13 @@ fn function_at(file: &[u8], table: u64, section: u64, address: u64) -> Result<El
         },
     )
 }
+
+/// What is found is a function symbol that covers the place, and none is nearer; and none is found only where
+/// none covers it.
+#[tactic(auto, using(crate::proofs::Nearest::finds_nearest))]
+pub fn nearest_law()
+    ensures { FindsNearest }
+{}
 
 // Kept: its parameters one by one, as C passes them.
 /// The function symbol of a table that covers an address, of those in a section unless that is 0: one with a

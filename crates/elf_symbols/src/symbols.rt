@@ -192,11 +192,11 @@ pub fn refused(refusal: Refusal) -> ElfSymbol
     }
 }
 
-/// The symbol at an index of a section, or a refusal by 101 to 108.
+/// The symbol at an index of a section, or a refusal by 101 to 108. Its name can be read where it says, also
+/// after a refusal.
 #[unsafe(no_mangle)]
 pub extern "C" fn unwind_elf_symbol(file: &[u8], section: u64, index: u64) -> ElfSymbol
     ensures value { result ≡ symbol_answer (symbol_at file.now section index) }
-    // Its name can be read where it says, also after a refusal.
     ensures inside { SymbolLiesIn (length file.now) result }
 {
     match symbol_at(file, section, index) {

@@ -5,6 +5,7 @@
                                 and of section headers set to numbers near the limits
     elf.py COUNT SEED whole     every ELF file of /usr/bin and below /usr/lib and of the cross packages
     elf.py readelf              sections and segments of the same files as readelf lists them
+    elf.py addr2line COUNT SEED   the functions at addresses of COUNT of these files, by that program, as addr2line names them
 
 At the end stands how often each number was answered; 0 is an answer."""
 
@@ -17,7 +18,7 @@ import subprocess
 import sys
 
 HERE = os.path.dirname(os.path.abspath(__file__))
-OUT = os.environ.get("ELF_READS_DIR") or os.path.join(os.path.dirname(HERE), "target", "differential")
+OUT = os.environ.get("ELF_READS_DIR") or os.path.join(os.path.dirname(os.path.dirname(HERE)), "target", "differential")
 FOLDERS = ("/usr/bin", "/usr/lib", "/usr/libexec", "/usr/aarch64-linux-gnu", "/usr/arm-linux-gnueabihf", "/usr/riscv64-linux-gnu", "/usr/lib32")
 SMALL = 60000
 NOT_ELF, UNKNOWN, OUTSIDE, NAME, ENTRY_SIZE, COMPRESSED, NO_ENTRY, KIND, ALIGNMENT = range(101, 110)
@@ -296,7 +297,7 @@ class File:
         return [0, 0, i, r["r_offset"], r["r_info"] >> bits, r["r_info"] & 2**bits - 1, addend, int(s["sh_type"] == 4)]
 
 
-# ---- the lines that elf_reads prints
+# ---- the lines that elf prints
 
 FIELDS = {"header": 7, "sections": 5, "section": 16, "segments": 4, "segment": 12, "note": 8, "symbol": 11, "relocation": 8}
 
@@ -490,9 +491,9 @@ def damaged(path, data, telling, rng):
 
 
 def ask(lines):
-    done = subprocess.run([os.path.join(OUT, "elf_reads")], input="\n".join(lines) + "\n", capture_output=True, text=True)
+    done = subprocess.run([os.path.join(OUT, "elf")], input="\n".join(lines) + "\n", capture_output=True, text=True)
     if done.returncode:
-        sys.exit(f"elf: elf_reads ended with {done.returncode}")
+        sys.exit(f"elf: elf ended with {done.returncode}")
     return done.stdout.split(".\n")
 
 
@@ -562,7 +563,59 @@ def with_readelf():
     print(f"elf: {sections} sections and {segments} segments of {n} files are as readelf lists them")
 
 
+def named_functions(f, k):
+    """From a function's start to the names that begin there."""
+    names = collections.defaultdict(set)
+    for start, _, _, i in f.functions(k):
+        y = f.symbol(k, i)
+        names[start].add(f.data[y[3] : y[3] + y[4]].decode(errors="replace").split("@")[0])
+    return names
+
+
+def with_addr2line(count, seed):
+    """What our program finds begins where the function begins that addr2line names. It names none in some stripped files, and where
+    nothing covers an address the one in front."""
+    rng, asked, covered, n = random.Random(seed), 0, 0, 0
+    for path in rng.sample(list(files()), count):
+        f = File(whole(path)[1])
+        try:
+            kinds = [(f.entry(i)["sh_type"], i) for i in range(f.once("sections")[1])]
+            if f.once("header")["e_type"] not in (2, 3) or len(f.data) > 5000000:
+                continue
+        except Refused:
+            continue
+        tables = [i for kind, i in kinds if kind == 2] or [i for kind, i in kinds if kind == 11]
+        functions = f.functions(tables[0]) if tables else []
+        if not functions:
+            continue
+        names = named_functions(f, tables[0])
+        chosen = rng.sample(functions, min(len(functions), 40))
+        places = [a for start, size, _, _ in chosen for a in (start, start + size // 2, start + max(size, 1) - 1)]
+        # A copy that leads to no debugging information, whose functions have other names.
+        bare = os.path.join(OUT, "elf", "bare")
+        leads = [f"--remove-section={name}" for name in (".gnu_debuglink", ".note.gnu.build-id", ".debug_*")]
+        if subprocess.run(["objcopy", *leads, path, bare], capture_output=True).returncode:
+            continue
+        said = subprocess.run(["addr2line", "-f", "-e", bare, *map(hex, places)], capture_output=True, text=True, errors="replace").stdout.split("\n")[::2]
+        n += 1
+        for address, name in zip(places, said):
+            asked += 1
+            if name == "??":
+                continue
+            try:
+                y = f.function_at(tables[0], functions, 0, address)
+            except Refused:
+                continue
+            covered += 1
+            start = y[5] & ~1 if f.once("header")["e_machine"] == 40 else y[5]
+            if name.split("@")[0] not in names[start]:
+                sys.exit(f"elf: {path}: {address:#x}: addr2line says {name}, ours begins at {start:#x}: {sorted(names[start])[:5]}")
+    print(f"elf: {covered} of {asked} addresses in {n} files are in the function that addr2line names; it names none, or nothing covers the others")
+
+
 if sys.argv[1:] == ["readelf"]:
     with_readelf()
+elif sys.argv[1] == "addr2line":
+    with_addr2line(int(sys.argv[2]), int(sys.argv[3]))
 else:
     judged(int(sys.argv[1]), int(sys.argv[2]), sys.argv[3:] == ["whole"])

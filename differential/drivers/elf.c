@@ -3,7 +3,7 @@
  * A line of the input: PATH, then how many bytes of the file are kept (- for all), then OFFSET:XOR for each byte that is changed. The
  * answers of a file end with a line of a dot.
  *
- *     elf_reads list PATH     lists the sections of one file, for time
+ *     elf list PATH     lists the sections of one file, for time
  */
 #include <fcntl.h>
 #include <inttypes.h>
@@ -113,6 +113,15 @@ static uint8_t *open_file(const char *path, size_t *whole) {
     return bytes;
 }
 
+/* So many bytes in front of a page that cannot be read, and their pages. */
+static uint8_t *guarded(size_t n, uint8_t **pages, size_t *all) {
+    size_t page = (size_t)sysconf(_SC_PAGESIZE), held = (n + page - 1) / page * page;
+    *all = held + page;
+    *pages = mmap(NULL, *all, PROT_READ | PROT_WRITE, MAP_PRIVATE | MAP_ANONYMOUS, -1, 0);
+    if (*pages == MAP_FAILED || mprotect(*pages + held, page, PROT_NONE)) exit(3);
+    return *pages + held - n;
+}
+
 static void list(const char *path) {
     uint8_t *bytes = open_file(path, &size);
     file = bytes;
@@ -132,21 +141,21 @@ int main(int argc, char **argv) {
     char *line = NULL;
     size_t room = 0;
     while (getline(&line, &room, stdin) != -1) {
-        size_t whole;
+        size_t whole, held = 0;
+        uint8_t *pages = NULL;
         char *path = strtok(line, "\t\n"), *kept = strtok(NULL, "\t\n");
         if (path == NULL) continue;
         uint8_t *bytes = open_file(path, &whole);
         size = kept && *kept != '-' ? strtoull(kept, NULL, 10) : whole;
-        /* A copy of exactly so many bytes, so that a read past them is seen by a checker of memory. */
-        uint8_t *copy = kept && *kept != '-' ? malloc(size ? size : 1) : bytes;
-        if (copy != bytes) memcpy(copy, bytes, size);
+        uint8_t *copy = kept && *kept != '-' ? guarded(size, &pages, &held) : bytes;
+        if (pages && size) memcpy(copy, bytes, size);
         for (char *edit; kept && (edit = strtok(NULL, "\t\n")) != NULL;) {
             char *mask = strchr(edit, ':');
             copy[strtoull(edit, NULL, 10)] ^= (uint8_t)strtoul(mask + 1, NULL, 10);
         }
         file = copy;
         all();
-        if (copy != bytes) free(copy);
+        if (pages) munmap(pages, held);
         if (whole) munmap(bytes, whole);
     }
     free(line);

@@ -1,0 +1,2 @@
+-- The structures of the gABI, written.
+pub mod Written
