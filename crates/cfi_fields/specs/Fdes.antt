@@ -1,5 +1,5 @@
 -- The fields of an FDE (DWARF 5, 6.4.1; LSB Core, "The Frame Description Entry Format").
-use Rattle.std.specs.Prelude.{ℕ, ◌+◌, ◌-◌, Bool, true, false, not, ◌==◌, nat_lt, if◌then◌else◌, List, length, take, Option, Some, None, Ok, Err}
+use Rattle.std.specs.Prelude.{ℕ, ◌+◌, ◌-◌, ◌≤◌, Bool, true, false, not, ◌==◌, nat_lt, if◌then◌else◌, List, length, take, Option, Some, None, Ok, Err}
 use Rattle.cfi_entries.specs.declared.refusal.Question.TheVariants.{Record, Fields}
 use Rattle.cfi_entries.specs.declared.entries.Kind.{Kind}
 use Rattle.cfi_entries.specs.declared.entries.Kind.TheVariants as kind
@@ -18,6 +18,10 @@ use Rattle.cfi_fields.specs.declared.fde.Lsda.{Lsda}
 use Rattle.cfi_fields.specs.declared.fde.Tail.{Tail}
 use Rattle.cfi_fields.specs.declared.fde.Fde.{Fde}
 use Rattle.cfi_fields.specs.Cies.{cie_of_entry}
+
+-- the operations of an FDE and of its CIE stand inside the section
+abbrev pub Holds : ℕ → Fde → Type 0
+Holds size f = (f.operations ≤ f.end) × (f.end ≤ size) × (f.cie.operations ≤ f.cie.end) × (f.cie.end ≤ size)
 
 -- initial_location is an address, where no R says otherwise
 abbrev pub or_address : Option Encoding → Encoding
