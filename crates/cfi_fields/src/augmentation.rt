@@ -210,15 +210,24 @@ fn with_letter(
         b'P' => with_personality(s, size, bases, string, x),
         b'L' => with_lsda(s, string, x),
         b'S' if !says.signal => Ok(Augmented {
-            says: Augmentation { signal: true, ..says },
+            says: Augmentation {
+                signal: true,
+                ..says
+            },
             ..x
         }),
         b'B' if !says.b_key => Ok(Augmented {
-            says: Augmentation { b_key: true, ..says },
+            says: Augmentation {
+                b_key: true,
+                ..says
+            },
             ..x
         }),
         b'G' if !says.tagged => Ok(Augmented {
-            says: Augmentation { tagged: true, ..says },
+            says: Augmentation {
+                tagged: true,
+                ..says
+            },
             ..x
         }),
         _ => Err(Refusal::new(Question::Fields, string)),
@@ -289,8 +298,21 @@ pub fn augmentation_at(
         tagged: false,
     };
     if !has_data(text) {
-        let read = with_letters(s, size, bases, string, text, Augmented { says: nothing, next: at })?;
-        return Ok(Augmented { says: read.says, next: at });
+        let read = with_letters(
+            s,
+            size,
+            bases,
+            string,
+            text,
+            Augmented {
+                says: nothing,
+                next: at,
+            },
+        )?;
+        return Ok(Augmented {
+            says: read.says,
+            next: at,
+        });
     }
     let Some((n, from)) = uleb(s, at) else {
         return Err(Refusal::new(Question::Fields, at));
@@ -300,9 +322,15 @@ pub fn augmentation_at(
     }
     let end = from + n as usize;
     let first = Augmented {
-        says: Augmentation { augmented: true, ..nothing },
+        says: Augmentation {
+            augmented: true,
+            ..nothing
+        },
         next: from,
     };
     let read = with_letters(&s[..end], size, bases, string, &text[1..], first)?;
-    Ok(Augmented { says: read.says, next: end })
+    Ok(Augmented {
+        says: read.says,
+        next: end,
+    })
 }

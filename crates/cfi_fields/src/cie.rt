@@ -73,7 +73,12 @@ fn text_in(s: &[u8], at: usize) -> Result<Text, Refusal>
 
 /// The size of an address, and the place behind it: in version 4 a field, with that of a segment selector, 0, behind it.
 #[tactic(auto, unfolding(crate::specs::Cies::address_at))]
-fn address(s: &[u8], at: usize, version: u8, size: AddressSize) -> Result<(AddressSize, usize), Refusal>
+fn address(
+    s: &[u8],
+    at: usize,
+    version: u8,
+    size: AddressSize,
+) -> Result<(AddressSize, usize), Refusal>
     requires { at ≤ length s.now }
     ensures value { result ≡ address_at s.now at version size }
     ensures inside { IfOk result (λ x. x.1 ≤ length s.now) }

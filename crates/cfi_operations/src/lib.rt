@@ -2,9 +2,9 @@
 //! dwarf2.def).
 #![tactic(auto)]
 
-pub mod products;
 pub mod operands;
 pub mod operation;
+pub mod products;
 
 pub use operands::Block;
 pub use operation::{Decoded, Operation, Units, operation_at};

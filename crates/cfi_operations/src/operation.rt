@@ -4,8 +4,8 @@ ghost use Rattle.std.specs.Prelude.{◌≡◌, ◌+◌, ◌≤◌, ◌<◌, leng
 ghost use Rattle.cfi_operations.specs.Operands.{Ahead};
 ghost use Rattle.cfi_operations.specs.Operations.{bare, step_bytes, step_at, cfa_at, value_at, of_register_at, args_size_at, with_operands_at, set_location_at, packed_at, operation_at};
 
-use crate::products::scaled;
 use crate::operands::{Block, expression, factored, negated, plain, register, signed};
+use crate::products::scaled;
 use cfi_entries::places::{field, uleb};
 use cfi_entries::{Question, Refusal};
 use cfi_pointers::{AddressSize, Bases, Encoding, pointer_at};

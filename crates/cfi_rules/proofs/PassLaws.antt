@@ -1,16 +1,16 @@
 -- A pass, an operation at a time.
-use Rattle.std.proofs.Common.{◌≡◌, refl, sym, ap, ◌∙◌, ℕ, zero, suc, ◌+◌, ◌-◌, ◌≤◌, ◌<◌, Bool, true, false, List, length, Some, None, Ok, Err, arith}
+use Rattle.std.proofs.Common.{◌≡◌, refl, sym, ap, ◌∙◌, ℕ, suc, ◌+◌, ◌-◌, ◌≤◌, ◌<◌, true, false, List, length, Some, None, Ok, Err, arith}
 use Rattle.std.proofs.lemmas.Bool.Decides.{nat_tests}
 use Rattle.cfi_entries.specs.declared.refusal.Question.{Question}
 use Rattle.cfi_entries.specs.declared.refusal.Question.TheVariants as question
 use Rattle.cfi_entries.specs.declared.refusal.Refusal.{Refusal}
-use Rattle.cfi_entries.specs.Refusals.{Answer, refused, ◌>>=◌}
+use Rattle.cfi_entries.specs.Refusals.{refused, ◌>>=◌}
 use Rattle.cfi_operations.specs.declared.operation.Decoded.{Decoded}
 use Rattle.cfi_operations.specs.declared.operation.Units.{Units}
 use Rattle.cfi_operations.specs.Operations.{operation_at}
 use Rattle.cfi_rules.specs.Registers.{Run}
 use Rattle.cfi_rules.specs.Actions.{act}
-use Rattle.cfi_rules.specs.Passes.{placed, step_of, is_step, cie_step, cie_run_f, cie_run, fde_step, fde_run_f, fde_run}
+use Rattle.cfi_rules.specs.Passes.{step_of, is_step, cie_step, cie_run_f, cie_run, fde_step, fde_run_f, fde_run}
 
 fuel : (size n at : ℕ) → n ≤ at → at ≤ size → suc size - n ≡ suc (size - n)
 fuel size n at a b = omega arith

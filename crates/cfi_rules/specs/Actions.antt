@@ -1,5 +1,5 @@
 -- What each operation does (DWARF 5, 6.4.2; DWARF for the Arm 64-bit Architecture, "RA_SIGN_STATE").
-use Rattle.std.specs.Prelude.{ℕ, ℤ, Bool, true, false, not, Ok, Err}
+use Rattle.std.specs.Prelude.{ℕ, ℤ, Bool, false, not, Ok, Err}
 use Rattle.cfi_entries.specs.declared.refusal.Question.TheVariants.{FrameRule}
 use Rattle.cfi_operations.specs.declared.operation.Operation.{Operation}
 use Rattle.cfi_operations.specs.declared.operation.Operation.TheVariants as op

@@ -22,7 +22,7 @@ fn is_step(operation: Operation) -> bool
 
 /// Where an operation leads from a location, counted from the function's start: nowhere, or on. Question 66: back, or
 /// past 64 bits.
-fn step_of(function: u64, location: u64, operation: Operation) -> Result<Option<u64>, Question>
+pub fn step_of(function: u64, location: u64, operation: Operation) -> Result<Option<u64>, Question>
     ensures { result ≡ step_of function location operation }
 {
     match operation {
@@ -108,7 +108,7 @@ fn run_fde(
 }
 
 /// What the operands of a record's operations are counted in.
-fn units_of(fde: &Fde, bases: &Bases) -> Units
+pub fn units_of(fde: &Fde, bases: &Bases) -> Units
     ensures { result ≡ units_of fde.now bases.now }
 {
     Units {
