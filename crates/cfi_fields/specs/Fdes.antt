@@ -47,7 +47,8 @@ tail_at c b s p =
     if not c.augmentation.augmented then Ok (record { lsda = None; operations = p })
     else (or_refused Fields p (uleb_at s p) >>= λ n.
     if nat_lt (length s - n.1) n.0 then Err (refused Fields p)
-    else (call_sites_at c b (take (n.1 + n.0) s) n.1 >>= λ l. Ok (record { lsda = l; operations = n.1 + n.0 })))
+    else (call_sites_at c b (take (n.1 + n.0) s) n.1 >>= λ l.
+    Ok (record { lsda = l; operations = n.1 + n.0 })))
 
 -- in pointers of the data the function is known
 abbrev pub within : ℕ → Bases → Bases
@@ -59,7 +60,15 @@ fde_fields c b s e =
     pointer_at (encoding_of_cie c) c.size b s e.fields >>= λ start.
     size_at (encoding_of_cie c) c.size s start.next >>= λ n.
     tail_at c (within start.address b) s n.1 >>= λ t.
-    Ok (record { at = e.at; cie = c; start = start.address; size = n.0; lsda = t.lsda; operations = t.operations; end = e.end })
+    Ok (record {
+      at = e.at;
+      cie = c;
+      start = start.address;
+      size = n.0;
+      lsda = t.lsda;
+      operations = t.operations;
+      end = e.end;
+    })
 
 unfoldable pub fde_of_entry : Cie → Bases → List ℕ → Entry → Answer Fde
 fde_of_entry c b s e = fde_fields c b (take e.end s) e

@@ -2,8 +2,10 @@
 
 ghost use Rattle.std.specs.Prelude.{◌≡◌, ◌+◌, ◌≤◌, ◌<◌, ◌==◌, length, IfOk, IfSome};
 ghost use Rattle.std.specs.List.{position};
-ghost use Rattle.cfi_fields.specs.Augmentations.{Inside, byte_at, encoding_at, pointers_at, personality_at, lsda_at};
-ghost use Rattle.cfi_fields.specs.Augmentations.{with_pointers, with_personality, with_lsda, with_letter, with_letters};
+ghost use Rattle.cfi_fields.specs.Augmentations.{Inside, byte_at, encoding_at, pointers_at, personality_at};
+ghost use Rattle.cfi_fields.specs.Augmentations.{lsda_at};
+ghost use Rattle.cfi_fields.specs.Augmentations.{with_pointers, with_personality, with_lsda, with_letter};
+ghost use Rattle.cfi_fields.specs.Augmentations.{with_letters};
 ghost use Rattle.cfi_fields.specs.Augmentations.{has_data, augmentation_at};
 
 use cfi_entries::places::uleb;

@@ -1,7 +1,8 @@
 //! The fields of an FDE.
 
 ghost use Rattle.std.specs.Prelude.{◌≡◌, ◌+◌, ◌≤◌, ◌<◌, length, IfOk};
-ghost use Rattle.cfi_fields.specs.Fdes.{Holds, encoding_of_cie, call_sites_at, tail_at, fde_fields, fde_of_entry, fde_at};
+ghost use Rattle.cfi_fields.specs.Fdes.{Holds, encoding_of_cie, call_sites_at, tail_at, fde_fields};
+ghost use Rattle.cfi_fields.specs.Fdes.{fde_of_entry, fde_at};
 
 use crate::cie::{Cie, cie_of_entry};
 use cfi_entries::places::uleb;
@@ -137,9 +138,9 @@ pub fn fde_of_entry(s: &[u8], fde: Entry, cie: Cie, bases: &Bases) -> Result<Fde
     fields(&s[..end], fde, cie, bases)
 }
 
-/// The FDE at a place of a section, with its CIE, for a target whose addresses have that size. Question 61: no entry
-/// fits the rest of the section. 62: no FDE starts there. 63: it has no CIE. 64: a field of either. 94: a base that a
-/// pointer is relative to.
+/// The FDE at a place of a section, with its CIE, for a target whose addresses have that size. Question 61:
+/// no entry fits the rest of the section. 62: no FDE starts there. 63: it has no CIE. 64: a field of either.
+/// 94: a base that a pointer is relative to.
 #[tactic(auto, unfolding(crate::specs::Fdes::fde_at))]
 pub fn fde_at(
     s: &[u8],

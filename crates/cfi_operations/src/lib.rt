@@ -1,5 +1,5 @@
-//! The operations of CIEs and FDEs, as any compiler writes them (DWARF 5, 6.4.2 and 7.24; the others by binutils'
-//! dwarf2.def).
+//! The operations of CIEs and FDEs, as any compiler writes them (DWARF 5, 6.4.2 and 7.24; the others by
+//! binutils' dwarf2.def).
 #![tactic(auto)]
 
 pub mod operands;

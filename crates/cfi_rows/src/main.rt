@@ -1,6 +1,6 @@
 //! Prints every entry of a section of call frame information, and of every FDE the rules of each of its rows.
-//! On standard input: four numbers of 8 bytes, the lowest first (1 for debug_frame, else 0; the size of an address; the
-//! section's address; the first of the 128 registers that are followed), and then the section.
+//! On standard input: four numbers of 8 bytes, the lowest first (1 for debug_frame, else 0; the size of an
+//! address; the section's address; the first of the 128 registers that are followed), and then the section.
 #![tactic(auto)]
 
 use cfi_entries::{Entry, Kind, Refusal, entry_at};

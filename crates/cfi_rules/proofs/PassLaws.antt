@@ -149,3 +149,6 @@ module _ (u : Units) (function asked : ℕ) (s : List ℕ) where
                     ap (λ (f : ℕ). fde_run_f f u function asked s d.next location t) e
                     ∙ sym (all ∙ fde_turn (length s - g.done) at location r h ∙ rw (sym o, sym n, a) refl);
               }
+
+-- what goes on
+pub ruleset fde_laws = (fde_start, fde_moves, fde_acts)

@@ -21,7 +21,8 @@ placed p (Err q) = Err (refused q p)
 
 -- a step on: 66 past 64 bits
 abbrev pub onward_from : (location n : ℕ) → Result (Option ℕ) Question
-onward_from location n = if nat_lt (location + n) (2 ^ 64) then Ok (Some (location + n)) else Err question.Operations
+onward_from location n =
+    if nat_lt (location + n) (2 ^ 64) then Ok (Some (location + n)) else Err question.Operations
 
 -- to an address: 66 where it is in front
 abbrev pub to_address : (function location address : ℕ) → Result (Option ℕ) Question
@@ -77,8 +78,10 @@ cie_run_f (suc f) u s p r =
 unfoldable pub cie_run : Units → List ℕ → ℕ → Run → Answer Run
 cie_run u s p r = cie_run_f (suc (length s)) u s p r
 
--- in an FDE a step that passes the location that is asked of ends the run; another goes on there, and what is no step acts here
-abbrev pub fde_step : (asked p location : ℕ) → Operation → Run → (more : ℕ → Run → Answer Run) → Result (Option ℕ) Question → Answer Run
+-- in an FDE a step that passes the location that is asked of ends the run; another goes on there, and what is
+-- no step acts here
+abbrev pub fde_step : (asked p location : ℕ) → Operation → Run → (more : ℕ → Run → Answer Run)
+    → Result (Option ℕ) Question → Answer Run
 fde_step asked p location o r more (Ok (Some next)) = if nat_lt asked next then Ok r else more next r
 fde_step asked p location o r more (Ok None) = placed p (act o r) >>= more location
 fde_step asked p location o r more (Err q) = Err (refused q p)
@@ -88,7 +91,8 @@ fde_run_f zero u function asked s p location r = Ok r
 fde_run_f (suc f) u function asked s p location r =
     if nat_le (length s) p then Ok r
     else (operation_at u s p >>= λ d.
-    fde_step asked p location d.operation r (fde_run_f f u function asked s d.next) (step_of function location d.operation))
+    fde_step asked p location d.operation r (fde_run_f f u function asked s d.next)
+    (step_of function location d.operation))
 
 unfoldable pub fde_run : Units → (function asked : ℕ) → List ℕ → ℕ → Run → Answer Run
 fde_run u function asked s p r = fde_run_f (suc (length s)) u function asked s p 0 r
@@ -111,7 +115,8 @@ pass f b asked s r =
 
 -- 65: the location is in the function
 unfoldable pub rules_of : Fde → Bases → (first asked : ℕ) → List ℕ → Answer Run
-rules_of f b first asked s = if nat_le f.size asked then Err (refused question.Offset f.at) else pass f b asked s (start first)
+rules_of f b first asked s =
+    if nat_le f.size asked then Err (refused question.Offset f.at) else pass f b asked s (start first)
 
 unfoldable pub rules_at : (debug : Bool) → AddressSize → Bases → (first asked : ℕ) → List ℕ → ℕ → Answer Run
 rules_at debug a b first asked s p = fde_at debug a b s p >>= λ f. rules_of f b first asked s

@@ -1,4 +1,5 @@
--- The rules of 128 registers, those that are stored, and the room for them (DWARF 5, 6.4.2.3 and 6.4.2.4). Nothing here knows of a log.
+-- The rules of 128 registers, those that are stored, and the room for them (DWARF 5, 6.4.2.3 and 6.4.2.4).
+-- Nothing here knows of a log.
 use Rattle.std.specs.Prelude.{ℕ, suc, ◌+◌, ◌-◌, Bool, true, false, ◌&&◌, nat_le, nat_lt, if◌then◌else◌, List, [], ◌∷◌, length, get_or, set, replicate, Result, Ok, Err}
 use Rattle.std.specs.Prelude as code
 use Rattle.std.proofs.Math.Option.{Option, none, some}
@@ -9,14 +10,16 @@ use Rattle.cfi_rules.specs.declared.rule.Rule.{Rule}
 use Rattle.cfi_rules.specs.declared.rule.Rule.TheVariants.{Unstated}
 use Rattle.cfi_rules.specs.declared.rule.Frame.{Frame}
 
--- what was stored: the rules, what was said beside them, and how many rules were set since, while they were the last stored
+-- what was stored: the rules, what was said beside them, and how many rules were set since, while they were
+-- the last stored
 pub record Held : Type 0 where
   pub rules : List Rule
   pub frame : Frame
   pub changes : ℕ
 
--- the first register that is followed; the rules that hold, and what is said beside them; the rules after the CIE's operations, and whether
--- those are being done; what is stored, the last first; and the size of the arguments
+-- the first register that is followed; the rules that hold, and what is said beside them; the rules after the
+-- CIE's operations, and whether those are being done; what is stored, the last first; and the size of the
+-- arguments
 pub record Run : Type 0 where
   pub first : ℕ
   pub rules : List Rule
@@ -62,7 +65,9 @@ set_at at r s = if nat_lt (total s.stored) 400 then Ok (with_rule at r s) else E
 
 -- where a register stands among the 128 that are followed
 abbrev pub seat : (first reg : ℕ) → code.Option ℕ
-seat first reg = if nat_lt reg first then code.None else if nat_lt (reg - first) 128 then code.Some (reg - first) else code.None
+seat first reg =
+    if nat_lt reg first then code.None
+    else if nat_lt (reg - first) 128 then code.Some (reg - first) else code.None
 
 -- a register that is not followed has no rule here
 abbrev pub set_seat : code.Option ℕ → Rule → Run → Action
@@ -86,7 +91,9 @@ with_held s = record s { stored = record { rules = s.rules; frame = s.frame; cha
 -- 68: at most 16 stored, and room for one
 unfoldable pub remember : Run → Action
 remember s =
-    if nat_lt (length s.stored) 16 then (if nat_lt (total s.stored) 400 then Ok (with_held s) else Err StatesRoom) else Err StatesRoom
+    if nat_lt (length s.stored) 16
+    then (if nat_lt (total s.stored) 400 then Ok (with_held s) else Err StatesRoom)
+    else Err StatesRoom
 
 -- the rules stored last, what was said beside them, and what is stored below them
 abbrev pub Back : Type 0

@@ -1,4 +1,5 @@
-//! What a record says at a place: the rule of the CFA and the rules of 128 registers, in one pass over its operations.
+//! What a record says at a place: the rule of the CFA and the rules of 128 registers, in one pass over its
+//! operations.
 #![tactic(auto)]
 
 pub mod log;

@@ -1,4 +1,5 @@
-//! A list of a fixed room. An `ArrayVec` would make two copies of the room on the stack of whoever calls its `new`.
+//! A list of a fixed room. An `ArrayVec` would make two copies of the room on the stack of whoever calls its
+//! `new`.
 ghost use Rattle.std.specs.Prelude.{◌≡◌, ◌<◌, ◌↔◌, [], ◌∷◌, ◌++◌, length, IsOk, OnOk, OnErr, IsSome, IfNone};
 ghost use Rattle.std.specs.Option.{option_to_list};
 

@@ -2,7 +2,8 @@
 ghost use Rattle.std.specs.Prelude.{◌≡◌, ◌≤◌, ◌<◌, length};
 ghost use Rattle.cfi_fields.specs.Fdes.{Holds};
 ghost use Rattle.cfi_rules.specs.Registers.{start, body_of};
-ghost use Rattle.cfi_rules.specs.Passes.{is_step, step_of, cie_run, fde_run, units_of, pass, rules_of, rules_at};
+ghost use Rattle.cfi_rules.specs.Passes.{is_step, step_of, cie_run, fde_run, units_of, pass, rules_of};
+ghost use Rattle.cfi_rules.specs.Passes.{rules_at};
 ghost use Rattle.cfi_rules.specs.States.{run_of, Passes, Gives};
 
 use crate::run::{act, enter_body, start};
@@ -20,8 +21,8 @@ fn is_step(operation: Operation) -> bool
     matches!(operation, Operation::Advance(_) | Operation::SetLocation(_))
 }
 
-/// Where an operation leads from a location, counted from the function's start: nowhere, or on. Question 66: back, or
-/// past 64 bits.
+/// Where an operation leads from a location, counted from the function's start: nowhere, or on. Question 66:
+/// back, or past 64 bits.
 pub fn step_of(function: u64, location: u64, operation: Operation) -> Result<Option<u64>, Question>
     ensures { result ≡ step_of function location operation }
 {
@@ -45,7 +46,7 @@ pub fn step_of(function: u64, location: u64, operation: Operation) -> Result<Opt
 }
 
 /// The operations of a CIE, in the bytes up to their end. Question 66: none can be read, or it is a step.
-#[tactic(auto, using(crate::proofs::PassLaws::cie_start, crate::proofs::PassLaws::cie_done, crate::proofs::PassLaws::cie_unread, crate::proofs::PassLaws::cie_steps, crate::proofs::PassLaws::cie_refused, crate::proofs::PassLaws::cie_goes_on))]
+#[tactic(auto, using(crate::proofs::PassLaws::cie_start, crate::proofs::PassLaws::cie_goes_on))]
 fn run_cie(s: &mut State, bytes: &[u8], from: usize, units: &Units) -> Result<(), Refusal>
     requires { from ≤ length bytes.now }
     ensures { Passes result (run_of s.new) (cie_run units.now bytes.now from (run_of s.old)) }
@@ -69,7 +70,7 @@ fn run_cie(s: &mut State, bytes: &[u8], from: usize, units: &Units) -> Result<()
 }
 
 /// The operations of an FDE, in the bytes up to their end, until a step passes the location that is asked of.
-#[tactic(auto, using(crate::proofs::PassLaws::fde_start, crate::proofs::PassLaws::fde_done, crate::proofs::PassLaws::fde_unread, crate::proofs::PassLaws::fde_stepless, crate::proofs::PassLaws::fde_passed, crate::proofs::PassLaws::fde_refused, crate::proofs::PassLaws::fde_moves, crate::proofs::PassLaws::fde_acts))]
+#[tactic(auto, using(crate::proofs::PassLaws::fde_laws))]
 fn run_fde(
     s: &mut State,
     bytes: &[u8],
@@ -140,8 +141,8 @@ fn pass(s: &mut State, section: &[u8], fde: &Fde, bases: &Bases, asked: u64) -> 
     run_fde(s, &section[..end], fde.operations, &units, fde.start, asked)
 }
 
-/// The rules of a record of a section at a location, counted from the function's start, of the 128 registers from
-/// `first` on. Question 65: the function does not reach there.
+/// The rules of a record of a section at a location, counted from the function's start, of the 128 registers
+/// from `first` on. Question 65: the function does not reach there.
 #[tactic(auto, unfolding(crate::specs::Passes::rules_of))]
 pub fn rules_of(
     section: &[u8],
@@ -163,12 +164,12 @@ pub fn rules_of(
     }
 }
 
-/// The rules at a location of the record at a place of a section, counted from the function's start, of the 128
-/// registers from `first` on; for a target whose addresses have that size. Question 61: no entry fits the rest of the
-/// section. 62: no FDE starts there. 63: it has no CIE. 64: a field of either. 65: the function does not reach the
-/// location. 66: an operation of theirs up to there. 67: no state is stored, or a CIE restores one. 68: more than 16
-/// states are stored, or more than 400 and changes since. 69: no rule of a register and an offset is there to change.
-/// 94: a base that a pointer is relative to.
+/// The rules at a location of the record at a place of a section, counted from the function's start, of the
+/// 128 registers from `first` on; for a target whose addresses have that size. Question 61: no entry fits the
+/// rest of the section. 62: no FDE starts there. 63: it has no CIE. 64: a field of either. 65: the function
+/// does not reach the location. 66: an operation of theirs up to there. 67: no state is stored, or a CIE
+/// restores one. 68: more than 16 states are stored, or more than 400 and changes since. 69: no rule of a
+/// register and an offset is there to change. 94: a base that a pointer is relative to.
 #[tactic(auto, unfolding(crate::specs::Passes::rules_at))]
 pub fn rules_at(
     section: &[u8],

@@ -45,8 +45,8 @@ impl Rule {
     }
 }
 
-/// What is said beside the registers: the rule of the CFA, and whether the return address is signed, and with the
-/// address of the instruction.
+/// What is said beside the registers: the rule of the CFA, and whether the return address is signed, and with
+/// the address of the instruction.
 #[derive(Clone, Copy, PartialEq, Eq, Debug, Default, Drop)]
 pub struct Frame {
     pub cfa: CfaRule,
@@ -54,8 +54,8 @@ pub struct Frame {
     pub with_pc: bool,
 }
 
-/// A line of the log: a state was stored, when this was said beside the registers; or a register had this rule before
-/// it got another.
+/// A line of the log: a state was stored, when this was said beside the registers; or a register had this
+/// rule before it got another.
 #[derive(Clone, Copy, Drop)]
 pub enum Noted {
     Mark(Frame),

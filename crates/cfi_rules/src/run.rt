@@ -1,7 +1,8 @@
 //! What an operation does to the rules.
 ghost use Rattle.std.specs.Prelude.{◌≡◌, ◌<◌, length, reverse, set, get_or, IfSome};
 ghost use Rattle.cfi_rules.specs.declared.rule.Rule.TheVariants.{Unstated};
-ghost use Rattle.cfi_rules.specs.Registers.{start, total, back, seat, set_at, set_rule, restore, remember, recall, body_of};
+ghost use Rattle.cfi_rules.specs.Registers.{start, total, back, seat, set_at, set_rule, restore, remember};
+ghost use Rattle.cfi_rules.specs.Registers.{recall, body_of};
 ghost use Rattle.cfi_rules.specs.Actions.{with_cfa, with_register, with_offset, with_signing, with_args, act};
 ghost use Rattle.cfi_rules.specs.Log.{stored_of, Undone};
 ghost use Rattle.cfi_rules.specs.States.{run_of, Acts};
