@@ -408,7 +408,7 @@ def files():
 
 def made(rng):
     """Small files that no compiler is needed for: each class and kind of table, with extended counts too."""
-    folder = os.path.join(OUT, "elf")
+    folder = os.path.join(OUT, "elf_files")
     os.makedirs(folder, exist_ok=True)
     for number, (c, extended) in enumerate(((1, False), (2, False), (1, True), (2, True))):
         path = os.path.join(folder, f"made{number}")
@@ -592,7 +592,7 @@ def with_addr2line(count, seed):
         chosen = rng.sample(functions, min(len(functions), 40))
         places = [a for start, size, _, _ in chosen for a in (start, start + size // 2, start + max(size, 1) - 1)]
         # A copy that leads to no debugging information, whose functions have other names.
-        bare = os.path.join(OUT, "elf", "bare")
+        bare = os.path.join(OUT, "elf_files", "bare")
         leads = [f"--remove-section={name}" for name in (".gnu_debuglink", ".note.gnu.build-id", ".debug_*")]
         if subprocess.run(["objcopy", *leads, path, bare], capture_output=True).returncode:
             continue

@@ -14,7 +14,7 @@
 #include <sys/stat.h>
 #include <unistd.h>
 
-#include "../include/dekvoz.h"
+#include "../../include/dekvoz.h"
 
 enum { SYMTAB = 2, RELA = 4, NOTE_SECTION = 7, REL = 9, DYNSYM = 11, NOTE_SEGMENT = 4, FUNC = 2, RELOCATABLE = 1 };
 

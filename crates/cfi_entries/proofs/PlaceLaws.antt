@@ -21,7 +21,8 @@ unfolding placed read_from past
 placed_plain p b size none = refl
 placed_plain p b size (some x) = refl
 
--- what was read at p with its mark is read there without, and from there it is at least lo and at most hi bytes to the place behind it
+-- what was read at p with its mark is read there without, and from there it is at least lo and at most hi
+-- bytes to the place behind it
 pub record Plainly (A : Type 0) (lo hi : ℕ) (s : List ℕ) (p : ℕ) (v : A) (q : ℕ) (o : code.Option (A × ℕ)) : Type 0 where
   pub is : Some (v, q) ≡ o
   pub least : p + lo ≤ q

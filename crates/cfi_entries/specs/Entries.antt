@@ -1,5 +1,5 @@
--- An entry at a place of a section (DWARF 5, 6.4.1, 7.2.2 and 7.4; LSB Core, "The Common Information Entry Format"
--- and "The Frame Description Entry Format").
+-- An entry at a place of a section (DWARF 5, 6.4.1, 7.2.2 and 7.4; LSB Core, "The Common Information Entry
+-- Format" and "The Frame Description Entry Format").
 use Rattle.std.specs.Prelude.{◌≡◌, ℕ, ◌+◌, ◌≤◌, ◌-◌, Bool, true, false, ◌&&◌, ◌==◌, nat_lt, nat_le, if◌then◌else◌, List, length, Option, Some, None, Ok, Err}
 use Rattle.cfi_entries.specs.declared.refusal.Question.TheVariants.{Tiling, Record, Header}
 use Rattle.cfi_entries.specs.declared.entries.Kind.{Kind}
@@ -9,15 +9,18 @@ use Rattle.cfi_entries.specs.declared.entries.Extent.{Extent}
 use Rattle.cfi_entries.specs.Places.{field_at}
 use Rattle.cfi_entries.specs.Refusals.{Answer, refused, or_refused, ◌>>=◌, ◌>>?◌}
 
--- 4 bytes below 0xfffffff0 are the length; behind 0xffffffff it has 8 bytes (7.4, 64-bit DWARF); the others are reserved
+-- 4 bytes below 0xfffffff0 are the length; behind 0xffffffff it has 8 bytes (7.4, 64-bit DWARF); the others
+-- are reserved
 unfoldable pub length_at : List ℕ → ℕ → Option Extent
 length_at s p =
     field_at 4 s p >>? λ n.
     if nat_lt n.0 0xfffffff0 then Some (record { wide = false; from = n.1; size = n.0 })
-    else if n.0 == 0xffffffff then (field_at 8 s n.1 >>? λ m. Some (record { wide = true; from = m.1; size = m.0 }))
+    else if n.0 == 0xffffffff
+    then (field_at 8 s n.1 >>? λ m. Some (record { wide = true; from = m.1; size = m.0 }))
     else None
 
--- the second field, CIE_id or CIE_pointer: in debug_frame an offset of the format (7.4), in eh_frame always of 4 bytes
+-- the second field, CIE_id or CIE_pointer: in debug_frame an offset of the format (7.4), in eh_frame always
+-- of 4 bytes
 abbrev pub id_size : (debug wide : Bool) → ℕ
 id_size debug wide = if debug && wide then 8 else 4
 
@@ -43,7 +46,13 @@ unfoldable pub identified : (debug : Bool) → List ℕ → ℕ → Extent → A
 identified debug s p x =
     if nat_lt x.size (id_size debug x.wide) then Err (refused Tiling p)
     else or_refused Tiling p (field_at (id_size debug x.wide) s x.from) >>= λ id.
-    Ok (record { at = p; wide = x.wide; kind = kind_of debug x.wide x.from id.0; fields = id.1; end = x.from + x.size })
+    Ok (record {
+      at = p;
+      wide = x.wide;
+      kind = kind_of debug x.wide x.from id.0;
+      fields = id.1;
+      end = x.from + x.size;
+    })
 
 -- an entry without contents is a terminator, and reading goes on behind it
 unfoldable pub entry_at : (debug : Bool) → List ℕ → ℕ → Answer Entry
@@ -51,7 +60,8 @@ entry_at debug s p =
     if nat_le (length s) p then Err (refused Record p)
     else or_refused Tiling p (length_at s p) >>= λ x.
     if nat_lt (length s - x.from) x.size then Err (refused Tiling p)
-    else if x.size == 0 then Ok (record { at = p; wide = x.wide; kind = Terminator; fields = x.from; end = x.from })
+    else if x.size == 0
+    then Ok (record { at = p; wide = x.wide; kind = Terminator; fields = x.from; end = x.from })
     else identified debug s p x
 
 -- an entry that was read at a place has its length and its fields in front of its end, inside the section

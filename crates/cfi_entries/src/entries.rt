@@ -1,7 +1,8 @@
 //! Entries one by one, and all of a section.
 
 ghost use Rattle.std.specs.Prelude.{◌≡◌, ◌+◌, ◌≤◌, ◌<◌, length, IfSome, IfOk};
-ghost use Rattle.cfi_entries.specs.Entries.{length_at, id_size, cie_id, kind_of, identified, entry_at, is_cie, cie_of};
+ghost use Rattle.cfi_entries.specs.Entries.{length_at, id_size, cie_id, kind_of, identified, entry_at};
+ghost use Rattle.cfi_entries.specs.Entries.{is_cie, cie_of};
 ghost use Rattle.cfi_entries.specs.Entries.{Ahead};
 ghost use Rattle.cfi_entries.specs.Listing.{entries, counted, Tiled};
 ghost use Rattle.cfi_entries.specs.Refusals.{refused};
@@ -176,7 +177,8 @@ pub fn cie_of(s: &[u8], debug: bool, fde: Entry) -> Result<Entry, Refusal>
 }
 
 /// How many entries a section has. They tile it: the first starts where the section does, each of the others
-/// where the one before it ends, and the last ends where the section does. Question 61: there no entry fits the rest.
+/// where the one before it ends, and the last ends where the section does. Question 61: there no entry fits
+/// the rest.
 
 #[tactic(auto, using(crate::proofs::EntryLaws::start, crate::proofs::EntryLaws::turn))]
 pub fn check_entries(s: &[u8], debug: bool) -> Result<u64, Refusal>

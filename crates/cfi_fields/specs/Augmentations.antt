@@ -1,5 +1,6 @@
--- The augmentation of a CIE: its string, and the data that its letters announce (LSB Core, "Augmentation String Format" and "CIE Augmentation
--- Section Content"; `B` and `G` of the AArch64 DWARF ABI and of the GNU tools).
+-- The augmentation of a CIE: its string, and the data that its letters announce (LSB Core, "Augmentation
+-- String Format" and "CIE Augmentation Section Content"; `B` and `G` of the AArch64 DWARF ABI and of the GNU
+-- tools).
 use Rattle.std.specs.Prelude.{ℕ, ◌+◌, ◌-◌, ◌≤◌, Bool, true, false, not, ◌&&◌, ◌||◌, ◌==◌, nat_lt, nat_le, if◌then◌else◌, List, [], ◌∷◌, length, take, drop, slice_index, is_some, Option, Some, None, Ok, Err}
 use Rattle.cfi_entries.specs.declared.refusal.Question.TheVariants.{Fields}
 use Rattle.cfi_entries.specs.Places.{uleb_at}
@@ -44,7 +45,8 @@ lsda_at s p = byte_at s p >>= λ n. if n == 0xff then Ok None else (encoding_at 
 unfoldable pub with_pointers : List ℕ → (t : ℕ) → Augmented → Answer Augmented
 with_pointers s t x =
     if not x.says.augmented || is_some x.says.pointers then Err (refused Fields t)
-    else (pointers_at s x.next >>= λ e. Ok (record { says = record x.says { pointers = Some e }; next = x.next + 1 }))
+    else (pointers_at s x.next >>= λ e.
+    Ok (record { says = record x.says { pointers = Some e }; next = x.next + 1 }))
 
 unfoldable pub with_personality : AddressSize → Bases → List ℕ → (t : ℕ) → Augmented → Answer Augmented
 with_personality a b s t x =
@@ -55,7 +57,8 @@ with_personality a b s t x =
 unfoldable pub with_lsda : List ℕ → (t : ℕ) → Augmented → Answer Augmented
 with_lsda s t x =
     if not x.says.augmented || x.says.has_lsda then Err (refused Fields t)
-    else (lsda_at s x.next >>= λ e. Ok (record { says = record x.says { has_lsda = true; lsda = e }; next = x.next + 1 }))
+    else (lsda_at s x.next >>= λ e.
+    Ok (record { says = record x.says { has_lsda = true; lsda = e }; next = x.next + 1 }))
 
 -- S, B and G have no data
 abbrev pub flagged : (t : ℕ) → (given : Bool) → Augmentation → ℕ → Answer Augmented
@@ -95,10 +98,14 @@ abbrev pub has_data : List ℕ → Bool
 has_data text = nat_lt 0 (length text) && (slice_index text 0 == 0x7a)
 
 -- with a z the data has a length, and the operations start behind it
-unfoldable pub augmentation_at : AddressSize → Bases → List ℕ → (t : ℕ) → (text : List ℕ) → ℕ → Answer Augmented
+unfoldable pub augmentation_at : AddressSize → Bases → List ℕ → (t : ℕ) → (text : List ℕ) → ℕ
+    → Answer Augmented
 augmentation_at a b s t text p =
-    if not (has_data text) then (with_letters a b s t text (record { says = nothing false; next = p }) >>= λ x. Ok (record { says = x.says; next = p }))
+    if not (has_data text)
+    then (with_letters a b s t text (record { says = nothing false; next = p }) >>= λ x.
+    Ok (record { says = x.says; next = p }))
     else (or_refused Fields p (uleb_at s p) >>= λ n.
     if nat_lt (length s - n.1) n.0 then Err (refused Fields p)
-    else (with_letters a b (take (n.1 + n.0) s) t (drop 1 text) (record { says = nothing true; next = n.1 }) >>= λ x.
+    else (with_letters a b (take (n.1 + n.0) s) t (drop 1 text)
+    (record { says = nothing true; next = n.1 }) >>= λ x.
     Ok (record { says = x.says; next = n.1 + n.0 })))

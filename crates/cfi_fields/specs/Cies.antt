@@ -16,7 +16,8 @@ use Rattle.cfi_fields.specs.Augmentations.{byte_at, augmentation_at}
 
 -- 1 in eh_frame and DWARF 2, 3 and 4 in DWARF 3 to 5
 unfoldable pub version_at : List ℕ → ℕ → Answer ℕ
-version_at s p = byte_at s p >>= λ v. if (v == 1) || (v == 3) || (v == 4) then Ok v else Err (refused Fields p)
+version_at s p =
+    byte_at s p >>= λ v. if (v == 1) || (v == 3) || (v == 4) then Ok v else Err (refused Fields p)
 
 -- the bytes in front of a 0
 abbrev pub text_of : ℕ → Option ℕ → Answer Text

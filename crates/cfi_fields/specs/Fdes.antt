@@ -1,5 +1,5 @@
 -- The fields of an FDE (DWARF 5, 6.4.1; LSB Core, "The Frame Description Entry Format").
-use Rattle.std.specs.Prelude.{ℕ, ◌+◌, ◌-◌, Bool, true, false, not, ◌==◌, nat_lt, if◌then◌else◌, List, length, take, Option, Some, None, Ok, Err}
+use Rattle.std.specs.Prelude.{ℕ, ◌+◌, ◌-◌, ◌≤◌, Bool, true, false, not, ◌==◌, nat_lt, if◌then◌else◌, List, length, take, Option, Some, None, Ok, Err}
 use Rattle.cfi_entries.specs.declared.refusal.Question.TheVariants.{Record, Fields}
 use Rattle.cfi_entries.specs.declared.entries.Kind.{Kind}
 use Rattle.cfi_entries.specs.declared.entries.Kind.TheVariants as kind
@@ -18,6 +18,10 @@ use Rattle.cfi_fields.specs.declared.fde.Lsda.{Lsda}
 use Rattle.cfi_fields.specs.declared.fde.Tail.{Tail}
 use Rattle.cfi_fields.specs.declared.fde.Fde.{Fde}
 use Rattle.cfi_fields.specs.Cies.{cie_of_entry}
+
+-- the operations of an FDE and of its CIE stand inside the section
+abbrev pub Holds : ℕ → Fde → Type 0
+Holds size f = (f.operations ≤ f.end) × (f.end ≤ size) × (f.cie.operations ≤ f.cie.end) × (f.cie.end ≤ size)
 
 -- initial_location is an address, where no R says otherwise
 abbrev pub or_address : Option Encoding → Encoding
@@ -43,7 +47,8 @@ tail_at c b s p =
     if not c.augmentation.augmented then Ok (record { lsda = None; operations = p })
     else (or_refused Fields p (uleb_at s p) >>= λ n.
     if nat_lt (length s - n.1) n.0 then Err (refused Fields p)
-    else (call_sites_at c b (take (n.1 + n.0) s) n.1 >>= λ l. Ok (record { lsda = l; operations = n.1 + n.0 })))
+    else (call_sites_at c b (take (n.1 + n.0) s) n.1 >>= λ l.
+    Ok (record { lsda = l; operations = n.1 + n.0 })))
 
 -- in pointers of the data the function is known
 abbrev pub within : ℕ → Bases → Bases
@@ -55,7 +60,15 @@ fde_fields c b s e =
     pointer_at (encoding_of_cie c) c.size b s e.fields >>= λ start.
     size_at (encoding_of_cie c) c.size s start.next >>= λ n.
     tail_at c (within start.address b) s n.1 >>= λ t.
-    Ok (record { at = e.at; cie = c; start = start.address; size = n.0; lsda = t.lsda; operations = t.operations; end = e.end })
+    Ok (record {
+      at = e.at;
+      cie = c;
+      start = start.address;
+      size = n.0;
+      lsda = t.lsda;
+      operations = t.operations;
+      end = e.end;
+    })
 
 unfoldable pub fde_of_entry : Cie → Bases → List ℕ → Entry → Answer Fde
 fde_of_entry c b s e = fde_fields c b (take e.end s) e

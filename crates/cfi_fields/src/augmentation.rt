@@ -2,8 +2,10 @@
 
 ghost use Rattle.std.specs.Prelude.{◌≡◌, ◌+◌, ◌≤◌, ◌<◌, ◌==◌, length, IfOk, IfSome};
 ghost use Rattle.std.specs.List.{position};
-ghost use Rattle.cfi_fields.specs.Augmentations.{Inside, byte_at, encoding_at, pointers_at, personality_at, lsda_at};
-ghost use Rattle.cfi_fields.specs.Augmentations.{with_pointers, with_personality, with_lsda, with_letter, with_letters};
+ghost use Rattle.cfi_fields.specs.Augmentations.{Inside, byte_at, encoding_at, pointers_at, personality_at};
+ghost use Rattle.cfi_fields.specs.Augmentations.{lsda_at};
+ghost use Rattle.cfi_fields.specs.Augmentations.{with_pointers, with_personality, with_lsda, with_letter};
+ghost use Rattle.cfi_fields.specs.Augmentations.{with_letters};
 ghost use Rattle.cfi_fields.specs.Augmentations.{has_data, augmentation_at};
 
 use cfi_entries::places::uleb;
@@ -210,15 +212,24 @@ fn with_letter(
         b'P' => with_personality(s, size, bases, string, x),
         b'L' => with_lsda(s, string, x),
         b'S' if !says.signal => Ok(Augmented {
-            says: Augmentation { signal: true, ..says },
+            says: Augmentation {
+                signal: true,
+                ..says
+            },
             ..x
         }),
         b'B' if !says.b_key => Ok(Augmented {
-            says: Augmentation { b_key: true, ..says },
+            says: Augmentation {
+                b_key: true,
+                ..says
+            },
             ..x
         }),
         b'G' if !says.tagged => Ok(Augmented {
-            says: Augmentation { tagged: true, ..says },
+            says: Augmentation {
+                tagged: true,
+                ..says
+            },
             ..x
         }),
         _ => Err(Refusal::new(Question::Fields, string)),
@@ -289,8 +300,21 @@ pub fn augmentation_at(
         tagged: false,
     };
     if !has_data(text) {
-        let read = with_letters(s, size, bases, string, text, Augmented { says: nothing, next: at })?;
-        return Ok(Augmented { says: read.says, next: at });
+        let read = with_letters(
+            s,
+            size,
+            bases,
+            string,
+            text,
+            Augmented {
+                says: nothing,
+                next: at,
+            },
+        )?;
+        return Ok(Augmented {
+            says: read.says,
+            next: at,
+        });
     }
     let Some((n, from)) = uleb(s, at) else {
         return Err(Refusal::new(Question::Fields, at));
@@ -300,9 +324,15 @@ pub fn augmentation_at(
     }
     let end = from + n as usize;
     let first = Augmented {
-        says: Augmentation { augmented: true, ..nothing },
+        says: Augmentation {
+            augmented: true,
+            ..nothing
+        },
         next: from,
     };
     let read = with_letters(&s[..end], size, bases, string, &text[1..], first)?;
-    Ok(Augmented { says: read.says, next: end })
+    Ok(Augmented {
+        says: read.says,
+        next: end,
+    })
 }

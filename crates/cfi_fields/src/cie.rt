@@ -2,7 +2,8 @@
 
 ghost use Rattle.std.specs.Prelude.{◌≡◌, ◌+◌, ◌≤◌, ◌<◌, length, take, IfOk};
 ghost use Rattle.cfi_entries.specs.Entries.{is_cie};
-ghost use Rattle.cfi_fields.specs.Cies.{version_at, text_at, address_at, factors_at, cie_fields, cie_of_entry, cie_at};
+ghost use Rattle.cfi_fields.specs.Cies.{version_at, text_at, address_at, factors_at, cie_fields};
+ghost use Rattle.cfi_fields.specs.Cies.{cie_of_entry, cie_at};
 
 use crate::augmentation::{Augmentation, augmentation_at, byte, text_size};
 use cfi_entries::places::{sleb, uleb};
@@ -71,9 +72,15 @@ fn text_in(s: &[u8], at: usize) -> Result<Text, Refusal>
     }
 }
 
-/// The size of an address, and the place behind it: in version 4 a field, with that of a segment selector, 0, behind it.
+/// The size of an address, and the place behind it: in version 4 a field, with that of a segment selector, 0,
+/// behind it.
 #[tactic(auto, unfolding(crate::specs::Cies::address_at))]
-fn address(s: &[u8], at: usize, version: u8, size: AddressSize) -> Result<(AddressSize, usize), Refusal>
+fn address(
+    s: &[u8],
+    at: usize,
+    version: u8,
+    size: AddressSize,
+) -> Result<(AddressSize, usize), Refusal>
     requires { at ≤ length s.now }
     ensures value { result ≡ address_at s.now at version size }
     ensures inside { IfOk result (λ x. x.1 ≤ length s.now) }
@@ -156,8 +163,9 @@ pub fn cie_of_entry(s: &[u8], cie: Entry, size: AddressSize, bases: &Bases) -> R
     fields(&s[..end], cie, size, bases)
 }
 
-/// The CIE at a place of a section, for a target whose addresses have that size. Question 61: no entry fits the rest
-/// of the section. 62: no CIE starts there. 64: a field. 94: a base that its personality is relative to.
+/// The CIE at a place of a section, for a target whose addresses have that size. Question 61: no entry fits
+/// the rest of the section. 62: no CIE starts there. 64: a field. 94: a base that its personality is relative
+/// to.
 #[tactic(auto, unfolding(crate::specs::Cies::cie_at))]
 pub fn cie_at(
     s: &[u8],

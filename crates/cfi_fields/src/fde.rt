@@ -1,7 +1,8 @@
 //! The fields of an FDE.
 
 ghost use Rattle.std.specs.Prelude.{◌≡◌, ◌+◌, ◌≤◌, ◌<◌, length, IfOk};
-ghost use Rattle.cfi_fields.specs.Fdes.{encoding_of_cie, call_sites_at, tail_at, fde_fields, fde_of_entry, fde_at};
+ghost use Rattle.cfi_fields.specs.Fdes.{Holds, encoding_of_cie, call_sites_at, tail_at, fde_fields};
+ghost use Rattle.cfi_fields.specs.Fdes.{fde_of_entry, fde_at};
 
 use crate::cie::{Cie, cie_of_entry};
 use cfi_entries::places::uleb;
@@ -41,7 +42,7 @@ struct Tail {
 }
 
 /// The encoding of the pointers in FDEs: without an R they are addresses.
-fn encoding_of(cie: &Cie) -> Encoding
+pub fn encoding_of(cie: &Cie) -> Encoding
     ensures { result ≡ encoding_of_cie cie.now }
 {
     match cie.augmentation.pointers {
@@ -105,7 +106,7 @@ fn tail_in(s: &[u8], at: usize, cie: &Cie, bases: &Bases) -> Result<Tail, Refusa
 fn fields(s: &[u8], fde: Entry, cie: Cie, bases: &Bases) -> Result<Fde, Refusal>
     requires { (fde.fields ≤ fde.end) × (fde.end ≡ length s.now) }
     ensures value { result ≡ fde_fields cie bases.now s.now fde }
-    ensures inside { IfOk result (λ f. (f.operations ≤ length s.now) × (f.end ≡ fde.end)) }
+    ensures inside { IfOk result (λ f. (f.operations ≤ length s.now) × (f.end ≡ fde.end) × (f.cie ≡ cie)) }
 {
     let encoding = encoding_of(&cie);
     let start = pointer_at(s, fde.fields, encoding, cie.size, bases)?;
@@ -131,15 +132,15 @@ fn fields(s: &[u8], fde: Entry, cie: Cie, bases: &Bases) -> Result<Fde, Refusal>
 pub fn fde_of_entry(s: &[u8], fde: Entry, cie: Cie, bases: &Bases) -> Result<Fde, Refusal>
     requires { (fde.fields ≤ fde.end) × (fde.end ≤ length s.now) }
     ensures value { result ≡ fde_of_entry cie bases.now s.now fde }
-    ensures inside { IfOk result (λ f. (f.operations ≤ f.end) × (f.end ≤ length s.now)) }
+    ensures inside { IfOk result (λ f. (f.operations ≤ f.end) × (f.end ≤ length s.now) × (f.cie ≡ cie)) }
 {
     let end = fde.end;
     fields(&s[..end], fde, cie, bases)
 }
 
-/// The FDE at a place of a section, with its CIE, for a target whose addresses have that size. Question 61: no entry
-/// fits the rest of the section. 62: no FDE starts there. 63: it has no CIE. 64: a field of either. 94: a base that a
-/// pointer is relative to.
+/// The FDE at a place of a section, with its CIE, for a target whose addresses have that size. Question 61:
+/// no entry fits the rest of the section. 62: no FDE starts there. 63: it has no CIE. 64: a field of either.
+/// 94: a base that a pointer is relative to.
 #[tactic(auto, unfolding(crate::specs::Fdes::fde_at))]
 pub fn fde_at(
     s: &[u8],
@@ -149,7 +150,7 @@ pub fn fde_at(
     bases: &Bases,
 ) -> Result<Fde, Refusal>
     ensures value { result ≡ fde_at debug size bases.now s.now at }
-    ensures inside { IfOk result (λ f. (f.operations ≤ f.end) × (f.end ≤ length s.now)) }
+    ensures inside { IfOk result (Holds (length s.now)) }
 {
     let entry = entry_at(s, debug, at)?;
     if !matches!(entry.kind, Kind::Fde(_)) {

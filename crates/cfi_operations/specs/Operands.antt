@@ -25,7 +25,8 @@ abbrev pub negated_at : ℤ → List ℕ → ℕ → Option (ℤ × ℕ)
 negated_at factor s p = uleb_at s p >>? λ n. product true n.0 factor >>? λ z. Some (z, n.1)
 
 abbrev pub signed_at : ℤ → List ℕ → ℕ → Option (ℤ × ℕ)
-signed_at factor s p = sleb_at s p >>? λ n. product (is_negative n.0) (nat_abs n.0) factor >>? λ z. Some (z, n.1)
+signed_at factor s p =
+    sleb_at s p >>? λ n. product (is_negative n.0) (nat_abs n.0) factor >>? λ z. Some (z, n.1)
 
 -- an expression: DW_FORM_block, a length and as many bytes
 abbrev pub block_at : List ℕ → ℕ → Option (Block × ℕ)

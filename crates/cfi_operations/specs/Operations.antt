@@ -1,5 +1,6 @@
--- An operation at a place (DWARF 5, 6.4.2 and table 7.29; DW_CFA_MIPS_advance_loc8, DW_CFA_GNU_args_size, DW_CFA_GNU_negative_offset_extended and
--- DW_CFA_AARCH64_negate_ra_state_with_pc of binutils' dwarf2.def; DWARF for the Arm 64-bit Architecture, DW_CFA_AARCH64_negate_ra_state).
+-- An operation at a place (DWARF 5, 6.4.2 and table 7.29; DW_CFA_MIPS_advance_loc8, DW_CFA_GNU_args_size,
+-- DW_CFA_GNU_negative_offset_extended and DW_CFA_AARCH64_negate_ra_state_with_pc of binutils' dwarf2.def;
+-- DWARF for the Arm 64-bit Architecture, DW_CFA_AARCH64_negate_ra_state).
 use Rattle.std.specs.Prelude.{ℕ, Bool, ◌+◌, ◌-◌, ◌*◌, ◌&&◌, ◌||◌, ◌==◌, nat_lt, nat_le, if◌then◌else◌, List, length, slice_index, ℤ, Option, Some, None, Ok, Err}
 use Rattle.cfi_entries.specs.declared.refusal.Question.{Question}
 use Rattle.cfi_entries.specs.declared.refusal.Question.TheVariants as question
@@ -47,12 +48,13 @@ cfa_at factor code s p =
     else if code == 0x0d then (register_at s p >>? λ r. decoded (DefCfaRegister r.0) r.1)
     else if code == 0x0e then (plain_at s p >>? λ z. decoded (DefCfaOffset z.0) z.1)
     else if code == 0x0f then (block_at s p >>? λ b. decoded (DefCfaExpression b.0) b.1)
-    else if code == 0x12 then (register_at s p >>? λ r. signed_at factor s r.1 >>? λ z. decoded (DefCfa r.0 z.0) z.1)
+    else if code == 0x12
+    then (register_at s p >>? λ r. signed_at factor s r.1 >>? λ z. decoded (DefCfa r.0 z.0) z.1)
     else if code == 0x13 then (signed_at factor s p >>? λ z. decoded (DefCfaOffset z.0) z.1)
     else None
 
--- offset_extended, restore_extended, undefined, same_value, register, expression, offset_extended_sf, val_offset, val_offset_sf, val_expression,
--- GNU_negative_offset_extended
+-- offset_extended, restore_extended, undefined, same_value, register, expression, offset_extended_sf,
+-- val_offset, val_offset_sf, val_expression, GNU_negative_offset_extended
 abbrev pub value_at : (factor : ℤ) → (code reg : ℕ) → List ℕ → ℕ → Option Decoded
 value_at factor code reg s p =
     if code == 0x05 then (factored_at factor s p >>? λ z. decoded (Offset reg z.0) z.1)
@@ -110,7 +112,8 @@ set_location_at u place s p = located place (pointer_at u.pointers u.size u.base
 unfoldable pub packed_at : Units → (code : ℕ) → List ℕ → ℕ → Option Decoded
 packed_at u code s p =
     if nat_lt code 0x80 then (fitting ((code - 0x40) * u.code_factor) >>? λ k. decoded (Advance k) p)
-    else if nat_lt code 0xc0 then (factored_at u.data_factor s p >>? λ z. decoded (Offset (code - 0x80) z.0) z.1)
+    else if nat_lt code 0xc0
+    then (factored_at u.data_factor s p >>? λ z. decoded (Offset (code - 0x80) z.0) z.1)
     else decoded (Restore (code - 0xc0)) p
 
 -- the operation at a place
@@ -119,4 +122,5 @@ operation_at u s p =
     if nat_le (length s) p then Err (refused question.Operations p)
     else if slice_index s p == 0x01 then set_location_at u p s (p + 1)
     else or_refused question.Operations p
-    (if nat_lt (slice_index s p) 0x40 then with_operands_at u (slice_index s p) s (p + 1) else packed_at u (slice_index s p) s (p + 1))
+    (if nat_lt (slice_index s p) 0x40 then with_operands_at u (slice_index s p) s (p + 1)
+    else packed_at u (slice_index s p) s (p + 1))

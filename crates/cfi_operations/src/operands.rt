@@ -1,7 +1,8 @@
 //! The operands of operations, each with the place behind it.
 
 ghost use Rattle.std.specs.Prelude.{◌≡◌, ◌+◌, ◌≤◌, ◌<◌, length, IfSome};
-ghost use Rattle.cfi_operations.specs.Operands.{Ahead, register_at, plain_at, factored_at, negated_at, signed_at, block_at};
+ghost use Rattle.cfi_operations.specs.Operands.{Ahead, register_at, plain_at, factored_at, negated_at};
+ghost use Rattle.cfi_operations.specs.Operands.{signed_at, block_at};
 
 use crate::products::{product, with_sign};
 use cfi_entries::places::{sleb, uleb};

@@ -2,10 +2,12 @@
 
 ghost use Rattle.std.specs.Prelude.{◌≡◌, ◌+◌, ◌≤◌, ◌<◌, length, IfSome, IfOk};
 ghost use Rattle.cfi_operations.specs.Operands.{Ahead};
-ghost use Rattle.cfi_operations.specs.Operations.{bare, step_bytes, step_at, cfa_at, value_at, of_register_at, args_size_at, with_operands_at, set_location_at, packed_at, operation_at};
+ghost use Rattle.cfi_operations.specs.Operations.{bare, step_bytes, step_at, cfa_at, value_at};
+ghost use Rattle.cfi_operations.specs.Operations.{of_register_at, args_size_at, with_operands_at};
+ghost use Rattle.cfi_operations.specs.Operations.{set_location_at, packed_at, operation_at};
 
-use crate::products::scaled;
 use crate::operands::{Block, expression, factored, negated, plain, register, signed};
+use crate::products::scaled;
 use cfi_entries::places::{field, uleb};
 use cfi_entries::{Question, Refusal};
 use cfi_pointers::{AddressSize, Bases, Encoding, pointer_at};
@@ -281,8 +283,8 @@ fn packed(s: &[u8], at: usize, code: u8, units: &Units) -> Option<Decoded>
     })
 }
 
-/// The operation at a place. Question 66: the bytes end there, or they hold no operation whose numbers 64 bits hold.
-/// 94: the base that an address is relative to is not known.
+/// The operation at a place. Question 66: the bytes end there, or they hold no operation whose numbers 64
+/// bits hold. 94: the base that an address is relative to is not known.
 #[tactic(auto, unfolding(crate::specs::Operations::operation_at))]
 pub fn operation_at(s: &[u8], at: usize, units: &Units) -> Result<Decoded, Refusal>
     ensures value { result ≡ operation_at units.now s.now at }

@@ -1,4 +1,5 @@
--- The byte of an encoding (LSB Core, "DWARF Exception Header Encoding", tables 10-5 and 10-6; 0x50 and 0x80 as the GNU tools have them).
+-- The byte of an encoding (LSB Core, "DWARF Exception Header Encoding", tables 10-5 and 10-6; 0x50 and 0x80
+-- as the GNU tools have them).
 use Rattle.std.specs.Prelude.{ℕ, ◌/◌, ◌%◌, ◌==◌, nat_le, if◌then◌else◌, Option, Some, None}
 use Rattle.cfi_pointers.specs.declared.encoding.Format.{Format}
 use Rattle.cfi_pointers.specs.declared.encoding.Format.TheVariants as format
@@ -35,7 +36,8 @@ base_of n =
 -- and DW_EH_PE_indirect
 unfoldable pub encoding_of : ℕ → Option Encoding
 encoding_of n =
-    format_of (n % 16) >>? λ f. base_of (n / 16 % 8) >>? λ b. Some (record { format = f; base = b; indirect = nat_le 128 n })
+    format_of (n % 16) >>? λ f. base_of (n / 16 % 8) >>? λ b.
+    Some (record { format = f; base = b; indirect = nat_le 128 n })
 
 -- the same bytes without a sign
 abbrev pub unsigned_format : Format → Format

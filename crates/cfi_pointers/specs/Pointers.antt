@@ -1,4 +1,5 @@
--- A pointer at a place of a section (LSB Core, "DWARF Exception Header Encoding"). Addresses wrap at their size.
+-- A pointer at a place of a section (LSB Core, "DWARF Exception Header Encoding"). Addresses wrap at their
+-- size.
 use Rattle.std.specs.Prelude.{ℕ, ◌+◌, ◌-◌, ◌*◌, ◌%◌, ◌^◌, nat_lt, nat_le, if◌then◌else◌, List, length, Option, Some, None, Ok, Err}
 use Rattle.std.specs.Int.{w64, cast_unsigned}
 use Rattle.cfi_entries.specs.declared.refusal.Question.TheVariants as question

@@ -1,4 +1,5 @@
-//! Pointers of call frame information in each of their encodings (LSB Core, "DWARF Exception Header Encoding").
+//! Pointers of call frame information in each of their encodings (LSB Core, "DWARF Exception Header
+//! Encoding").
 #![tactic(auto)]
 
 pub mod encoding;

@@ -1,15 +1,16 @@
 //! A pointer at a place of a section.
 
 ghost use Rattle.std.specs.Prelude.{◌≡◌, ◌+◌, ◌-◌, ◌*◌, ◌%◌, ◌^◌, ◌≤◌, ◌<◌, length, IfSome, IfOk};
-ghost use Rattle.cfi_pointers.specs.Pointers.{extended, signed_field_at, signed_leb_at, number_at, base_address, gap, pointer_at, size_at};
+ghost use Rattle.cfi_pointers.specs.Pointers.{extended, signed_field_at, signed_leb_at, number_at};
+ghost use Rattle.cfi_pointers.specs.Pointers.{base_address, gap, pointer_at, size_at};
 
 use crate::encoding::{Base, Encoding, Format};
 use crate::size::AddressSize;
 use cfi_entries::places::{field, sleb, uleb};
 use cfi_entries::{Question, Refusal};
 
-/// What pointers are relative to: the addresses of the section, of the text, of the data and of the function, where
-/// they are known.
+/// What pointers are relative to: the addresses of the section, of the text, of the data and of the function,
+/// where they are known.
 #[derive(Clone, Copy, Debug)]
 pub struct Bases {
     pub section: u64,
@@ -114,8 +115,8 @@ impl Bases {
     }
 }
 
-/// The pointer at a place. Question 64: the section ends there, or the number has more than 64 bits. 94: the base
-/// that it is relative to is not known.
+/// The pointer at a place. Question 64: the section ends there, or the number has more than 64 bits. 94: the
+/// base that it is relative to is not known.
 #[tactic(auto, unfolding(crate::specs::Pointers::pointer_at))]
 pub fn pointer_at(
     s: &[u8],
