@@ -7,6 +7,7 @@ pub mod arm64_records_read;
 pub mod arm64_written;
 pub mod fields;
 pub mod frames;
+pub mod looked_up;
 pub mod machine;
 pub mod placed;
 pub mod places;
