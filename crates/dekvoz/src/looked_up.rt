@@ -21,8 +21,8 @@ pub extern "C" fn unwind_entries_of(
     lookup::unwind_entries_of(section, relocations, kind, word, address, pc)
 }
 
-/// The rules of registers 0, 1, .. at offset p, from what unwind_locate or unwind_locate_at answered: two numbers a register, its rule and
-/// the rule's offset or register, for as many registers as the lent list has room for.
+/// The rules of registers 0, 1, .. at offset p, from what unwind_locate or unwind_locate_at answered: two
+/// numbers a register, its rule and the rule's offset or register, as many as the lent list has room for.
 #[unsafe(no_mangle)]
 pub extern "C" fn unwind_all_rules_at(
     section: &[u8],

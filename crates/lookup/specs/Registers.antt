@@ -1,5 +1,5 @@
--- The rules of all registers at an offset of a record that was located (DWARF 5, 6.4.1: a row has a rule for every
--- register): for each of them what unwind_rules_at answers.
+-- The rules of all registers at an offset of a record that was located (DWARF 5, 6.4.1: a row has a rule for
+-- every register): for each of them what unwind_rules_at answers.
 use Rattle.std.specs.Prelude.{ℕ, zero, suc, ◌/◌, Bool, List, [], ◌∷◌, ◌++◌, length, min, get_or, Ok, Err}
 use Rattle.format.specs.Put.{put}
 use Rattle.format.specs.Coded.{Reading}
@@ -36,10 +36,14 @@ all_rules_as (Ok a) shortest n =
 all_rules_as (Err n) shortest m =
     record { number = n; frame = 0; frame_register = 0; frame_offset = 0; signing = 0; shortest = 0; registers = 0 }
 
--- the lent list at exit: the rules at its front and the rest as it was; on a refusal it is unchanged
-unfoldable pub rules_stored : (ℕ → Reading) → Reading → List ℕ → List ℕ
-rules_stored r (Ok a) old = put old 0 (rules_listed r 0 (registers_in (length old)))
-rules_stored r (Err n) old = old
+-- a lent list with the rules at its front and the rest as it was
+abbrev pub filled : List ℕ → Located → (p : ℕ) → List ℕ → List ℕ
+filled s l p old = put old 0 (rules_listed (λ q. rules_of s l q p) 0 (registers_in (length old)))
+
+-- on a refusal it is unchanged
+unfoldable pub where_read : Reading → (new old : List ℕ) → List ℕ
+where_read (Ok a) new old = new
+where_read (Err n) new old = old
 
 -- ---- as the export answers, and the lent list at exit
 
@@ -47,4 +51,4 @@ unfoldable pub all_rules_at : List ℕ → Located → (p room : ℕ) → AllRul
 all_rules_at s l p room = all_rules_as (rules_of s l 0 p) (shortest_from s (reader_places l) p) (registers_in room)
 
 unfoldable pub rules_after : List ℕ → Located → (p : ℕ) → List ℕ → List ℕ
-rules_after s l p old = rules_stored (λ q. rules_of s l q p) (rules_of s l 0 p) old
+rules_after s l p old = where_read (rules_of s l 0 p) (filled s l p old) old

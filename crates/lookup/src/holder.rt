@@ -1,8 +1,7 @@
 // The record that holds an address, and its header.
 ghost use Rattle.std.specs.Prelude.{◌≡◌};
 ghost use Rattle.format.specs.Coded.{result_of, numbered};
-ghost use Rattle.format.specs.Lists.{relocations_of};
-ghost use Rattle.lookup.specs.Entries.{entries_as, entries_in};
+ghost use Rattle.lookup.specs.Entries.{entries_as, held_in};
 
 use crate::Entries;
 use format::Question;
@@ -29,9 +28,10 @@ impl From<Result<(u64, u64, u64), Question>> for Entries {
     }
 }
 
-// Questions 61, 62 and 63: the number of the first record that holds an address, its place and that of its header.
+// Questions 61, 62 and 63: the number of the first record that holds an address, its place and that of
+// its header.
 pub fn holding(section: &Section, address: u64, pc: u64) -> Result<(u64, u64, u64), Question>
-    ensures { numbered result ≡ result_of (entries_in section.now.layout.debug section.now.layout.word (relocations_of section.now.relocations.now) address pc section.now.bytes.now) }
+    ensures { numbered result ≡ result_of (held_in section.now address pc) }
 {
     let loaded = Loaded {
         section: *section,

@@ -1,5 +1,5 @@
-// Exports for those who look addresses up (include/dekvoz.h): the record that holds an address with its header, and the rules of all registers
-// at a place.
+// Exports for those who look addresses up (include/dekvoz.h): the record that holds an address with its
+// header, and the rules of all registers at a place.
 #![tactic(auto)]
 
 ghost use Rattle.std.specs.Prelude.{◌≡◌, length};
@@ -12,8 +12,8 @@ use reads::Located;
 pub mod holder;
 pub mod registers;
 
-/// What unwind_entries_of answers: the record's number and its place, and the place of its header. On a refusal all but the question's number
-/// is 0.
+/// What unwind_entries_of answers: the record's number and its place, and the place of its header. On a
+/// refusal all but the question's number is 0.
 #[repr(C)]
 #[derive(Clone, Copy, Default)]
 pub struct Entries {
@@ -23,8 +23,8 @@ pub struct Entries {
     pub header: u64,
 }
 
-/// What unwind_all_rules_at answers: the CFA rule, the signing state, whether the numbers that were read are spelled shortest, and how many
-/// registers' rules are stored. On a refusal all but the question's number is 0.
+/// What unwind_all_rules_at answers: the CFA rule, the signing state, whether the numbers that were read are
+/// spelled shortest, and how many registers' rules are stored. On a refusal all but `number` is 0.
 #[repr(C)]
 #[derive(Clone, Copy, Default)]
 pub struct AllRules {
@@ -55,8 +55,8 @@ pub extern "C" fn unwind_entries_of(
     Entries::from(holder::holding(&section, address, pc))
 }
 
-/// The rules of registers 0, 1, .. at offset p, from what unwind_locate or unwind_locate_at answered: two numbers a register, its rule and
-/// the rule's offset or register, for as many registers as the lent list has room for.
+/// The rules of registers 0, 1, .. at offset p, from what unwind_locate or unwind_locate_at answered: two
+/// numbers a register, its rule and the rule's offset or register, as many as the lent list has room for.
 #[unsafe(no_mangle)]
 pub extern "C" fn unwind_all_rules_at(
     section: &[u8],

@@ -1,8 +1,7 @@
 // The rules of all registers at a place.
 ghost use Rattle.std.specs.Prelude.{◌≡◌, [], ◌∷◌, length, Ok};
-ghost use Rattle.format.specs.Put.{put};
 ghost use Rattle.reads.specs.Places.{rules_of};
-ghost use Rattle.lookup.specs.Registers.{rule_part, rules_listed, registers_in, all_rules_as, all_rules_at, rules_after};
+ghost use Rattle.lookup.specs.Registers.{rule_part, registers_in, filled, all_rules_as, all_rules_at, rules_after};
 
 use crate::AllRules;
 use format::Rules;
@@ -33,7 +32,7 @@ fn rule_at(section: &[u8], located: Located, q: u16, p: u64) -> (u64, u64)
 
 // Stores the rules of as many registers as there is room for: a run over the operations for each.
 fn fill(section: &[u8], located: Located, p: u64, rules: &mut [u64])
-    ensures { rules.new ≡ put rules.old 0 (rules_listed (λ q. rules_of section.now located q p) 0 (registers_in (length rules.old))) }
+    ensures { rules.new ≡ filled section.now located p rules.old }
 {
     for q in 0..registers_in(rules) {
         let (rule, value) = rule_at(section, located, q as u16, p);
@@ -59,7 +58,7 @@ fn told(first: Rules, shortest: bool, registers: u64) -> AllRules
 }
 
 // The rules of registers 0, 1, .. at offset p, in a lent list.
-#[tactic(auto, unfolding(crate::specs::Registers::all_rules_at, crate::specs::Registers::rules_after, crate::specs::Registers::all_rules_as, crate::specs::Registers::rules_stored))]
+#[tactic(auto, unfolding(crate::specs::Registers::all_rules_at, crate::specs::Registers::rules_after, crate::specs::Registers::all_rules_as, crate::specs::Registers::where_read))]
 pub fn all_rules_at(section: &[u8], located: Located, p: u64, rules: &mut [u64]) -> AllRules
     ensures answer { result ≡ all_rules_at section.now located p (length rules.old) }
     ensures list_after { rules.new ≡ rules_after section.now located p rules.old }

@@ -1,4 +1,5 @@
--- The ready machines beside x86-64. On each a call pushes nothing, and DWARF's first numbers are the integer registers of these numbers.
+-- The ready machines beside x86-64. On each a call pushes nothing, and DWARF's first numbers are the integer
+-- registers of these numbers.
 use Rattle.std.specs.Prelude.{◌++◌, replicate, List, [], ◌∷◌, ℕ}
 use Rattle.format.specs.Machine.{machine_with}
 use Rattle.format.specs.declared.Machine.{Machine}

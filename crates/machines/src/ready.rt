@@ -19,21 +19,24 @@ const SIXTEEN: [u8; 64] = [
     255, 255,
 ];
 
-/// AArch64: word 8, stack pointer 31, return address 30, frame pointer 29 (DWARF for the Arm 64-bit Architecture, 4.1).
+/// AArch64: word 8, stack pointer 31, return address 30, frame pointer 29 (DWARF for the Arm
+/// 64-bit Architecture, 4.1).
 pub fn aarch64() -> Machine
     ensures { result ≡ aarch64 }
 {
     Machine::new(8, 0, 31, 30, 29, THIRTY_TWO)
 }
 
-/// ARM of 32 bits: word 4, stack pointer 13, return address 14, frame pointer 11 (DWARF for the Arm Architecture, 4.1).
+/// ARM of 32 bits: word 4, stack pointer 13, return address 14, frame pointer 11 (DWARF for the
+/// Arm Architecture, 4.1).
 pub fn arm() -> Machine
     ensures { result ≡ arm }
 {
     Machine::new(4, 0, 13, 14, 11, SIXTEEN)
 }
 
-/// RISC-V of 64 bits: word 8, stack pointer 2, return address 1, frame pointer 8 (RISC-V ELF psABI, DWARF register numbers).
+/// RISC-V of 64 bits: word 8, stack pointer 2, return address 1, frame pointer 8 (RISC-V ELF
+/// psABI, DWARF register numbers).
 pub fn riscv64() -> Machine
     ensures { result ≡ riscv64 }
 {
