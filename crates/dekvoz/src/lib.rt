@@ -8,6 +8,7 @@ pub mod arm64_written;
 pub mod fields;
 pub mod files;
 pub mod frames;
+pub mod looked_up;
 pub mod machine;
 pub mod placed;
 pub mod places;

@@ -1,0 +1,3 @@
+-- The lemmas of this crate's functions.
+mod Listing
+mod Held

@@ -1,0 +1,3 @@
+-- What the exports answer.
+pub mod Entries
+pub mod Registers
