@@ -10,6 +10,7 @@ use Rattle.format.specs.CallSiteReader.{site_of, read_site, read_sites, read_tab
 use Rattle.operations.specs.declared.fields.Position.{Position}
 use Rattle.call_sites.specs.declared.Entry.{Entry}
 use Rattle.call_sites.specs.declared.Table.{Table}
+use Rattle.call_sites.specs.declared.Entries.{Entries}
 use Rattle.call_sites.specs.declared.Found.{Found}
 use Rattle.call_sites.specs.declared.Site.{Site}
 
@@ -42,6 +43,20 @@ pub record TableThere (s : List ℕ) (p : ℕ) (entries : List ℕ) (length_shor
 abbrev pub TableSays : List ℕ → ℕ → code.Option Table → Type 0
 TableSays s p (Some t) = TableThere s p t.entries.now t.shortest
 TableSays s p None = read_table (drop p s) ≡ none
+
+-- ---- the entries, from the front on, where the length in front of them is spelled shortest or not
+
+abbrev pub marked_start : (shortest : Bool) → Position
+marked_start shortest = record { at = 0; shortest = shortest }
+
+-- what `next` gives of some entries: what stands at the position, and then the position past it; none at the entries' end
+abbrev pub Behind : Entries → code.Option (Entry × Position) → Entries → Type 0
+Behind x None y = Unit
+Behind x (Some e) y = (y.bytes.now ≡ x.bytes.now) × (y.at ≡ e.1)
+
+abbrev pub GivesEntry : Entries → code.Option (code.Option (Entry × Position)) → Entries → Type 0
+GivesEntry x None y = length x.bytes.now ≤ x.at.at
+GivesEntry x (Some r) y = (x.at.at < length x.bytes.now) × EntrySays x.bytes.now x.at r × Behind x r y
 
 -- ---- the entry that covers an offset
 

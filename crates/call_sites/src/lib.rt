@@ -2,17 +2,22 @@
 // rucc-asm/src/unwind.rs of tamnd/rucc does not have.
 #![tactic(auto)]
 
-ghost use Rattle.std.specs.Prelude.{◌≡◌, ◌&&◌};
+ghost use Rattle.std.specs.Prelude.{◌≡◌, ◌≤◌, ◌+◌, ◌&&◌, length};
 ghost use Rattle.format.specs.Coded.{numbered};
+ghost use Rattle.format.specs.Put.{put};
 ghost use Rattle.format.specs.Shortest.{every_short};
-ghost use Rattle.format.specs.CallSiteReader.{covers, head_ok, site_at, sites_short, marked_site};
-ghost use Rattle.call_sites.specs.Reads.{landing_of, EntrySays, TableSays, read_of, first_covering, with_mark, found_numbers, marked_of};
+ghost use Rattle.format.specs.CallSiteReader.{covers, head_ok, read_sites, site_at, sites_short, marked_site};
+ghost use Rattle.call_sites.specs.Listed.{site_stride, landing_numbers, list_at, sites_stored, listed_of, counted_of, stored_of, HasRoom};
+ghost use Rattle.call_sites.specs.Reads.{landing_of, EntrySays, TableSays, read_of, marked_start, first_covering, with_mark, found_numbers, marked_of};
 
 use format::Question;
 use numbers::encodings;
 use operations::fields::{Position, read_uleb};
 
 // ---- one entry
+
+// A site in a list of numbers: start, length and pad.
+pub const SITE_STRIDE: usize = 3;
 
 #[derive(Clone, Copy)]
 pub struct Entry {
@@ -42,6 +47,14 @@ impl Entry {
         ensures { result ≡ covers offset (landing_of self) }
     {
         self.start <= offset && offset - self.start < self.length
+    }
+
+    fn put(self, held: &mut [u64], at: usize)
+        requires { at + site_stride ≤ length held.old }
+        ensures { held.new ≡ put held.old at (landing_numbers (landing_of self)) }
+    {
+        let numbers = [self.start, self.length, self.pad];
+        held[at..at + SITE_STRIDE].copy_from_slice(&numbers);
     }
 }
 
@@ -85,6 +98,38 @@ fn table_at(sites: &[u8], place: u64) -> Option<Table>
     })
 }
 
+// A table's entries from a position on. One that cannot be read is None, and the last.
+#[derive(Drop)]
+struct Entries<'a> {
+    bytes: &'a [u8],
+    at: Position,
+}
+
+impl Iterator for Entries<'_> {
+    ghost use Rattle.std.specs.Prelude.{◌-◌, length};
+    ghost use Rattle.std.specs.Iterator.{at_most};
+    ghost use Rattle.call_sites.specs.Reads.{GivesEntry};
+
+    // The entry and the position past it.
+    type Item = Option<(Entry, Position)>;
+
+    ghost next_gives = { GivesEntry };
+
+    ghost remaining = { λ s. at_most (length s.bytes.now - s.at.at) };
+
+    fn next(&mut self) -> Option<Option<(Entry, Position)>> {
+        if self.bytes.len() <= self.at.at {
+            return None;
+        }
+        let Some((entry, past)) = entry_at(self.bytes, self.at) else {
+            self.at.at = self.bytes.len();
+            return Some(None);
+        };
+        self.at = past;
+        Some(Some((entry, past)))
+    }
+}
+
 // What a table has for an offset: the first entry that covers it, and whether every number of the table is spelled shortest.
 #[derive(Clone, Copy)]
 pub struct Found {
@@ -92,30 +137,73 @@ pub struct Found {
     pub shortest: bool,
 }
 
+// How many entries a table has, and whether every number of it is spelled shortest.
+#[derive(Clone, Copy)]
+pub struct Listed {
+    pub sites: u64,
+    pub shortest: bool,
+}
+
 impl Table<'_> {
+    fn entries(&self) -> Entries
+        ensures { (result.bytes.now ≡ self.now.entries.now) × (result.at ≡ marked_start self.now.shortest) }
+    {
+        Entries {
+            bytes: self.entries,
+            at: Position {
+                at: 0,
+                shortest: self.shortest,
+            },
+        }
+    }
+
     // Every entry is read, also behind the one that is found.
     fn search(&self, offset: u64) -> Result<Found, Question>
         ensures { numbered result ≡ with_mark (first_covering offset self.now.entries.now) (self.now.shortest && every_short self.now.entries.now) }
     {
-        let s = self.entries;
-        let mut at = Position {
-            at: 0,
-            shortest: self.shortest,
-        };
         let mut found = None;
-        // Kept: a `while`. An iterator over the entries would be a struct of the bytes and the position, with an `impl Iterator` whose items are
-        // Options (an entry may be unreadable) and whose position is asked for once more behind the loop: twenty lines for this one loop.
-        while at.at < s.len() {
-            let Some((entry, past)) = entry_at(s, at) else {
+        let mut shortest = self.shortest;
+        for read in self.entries() {
+            let Some((entry, past)) = read else {
                 return Err(Question::CallSites);
             };
             found = found.or(entry.covers(offset).then_some(entry));
-            at = past;
+            shortest = past.shortest;
         }
         Ok(Found {
             entry: found,
-            shortest: at.shortest,
+            shortest,
         })
+    }
+
+    fn count(&self) -> Result<Listed, Question>
+        ensures { numbered result ≡ counted_of (read_sites self.now.entries.now) (self.now.shortest && every_short self.now.entries.now) }
+    {
+        let mut sites = 0;
+        let mut shortest = self.shortest;
+        for read in self.entries() {
+            let Some((_, past)) = read else {
+                return Err(Question::CallSites);
+            };
+            sites += 1;
+            shortest = past.shortest;
+        }
+        Ok(Listed { sites, shortest })
+    }
+
+    // The entries, three numbers each, at the front of a list that has room for them.
+    fn store(&self, held: &mut [u64])
+        requires { HasRoom (read_sites self.now.entries.now) held.old }
+        ensures { held.new ≡ stored_of (read_sites self.now.entries.now) held.old }
+    {
+        let mut at = 0;
+        for read in self.entries() {
+            let Some((entry, _)) = read else {
+                return;
+            };
+            entry.put(held, at);
+            at += SITE_STRIDE;
+        }
     }
 }
 
@@ -123,12 +211,30 @@ impl Table<'_> {
 fn look_up(sites: &[u8], place: u64, offset: u64) -> Result<Found, Question>
     ensures { numbered result ≡ with_mark (read_of (site_at sites.now place offset)) (sites_short sites.now place) }
 {
-    // Kept: `let .. else`, here and on `entry_at`'s answer (D121): each is asked once, and the refusal is named beside it, as document 01 has it for LEB,
-    // operation and header answers.
+    // Kept: `let .. else`, here and on the entries (D121): each is asked once, and the refusal is named beside it, as the specification has it
+    // for LEB, operation and header answers.
     let Some(table) = table_at(sites, place) else {
         return Err(Question::CallSiteTable);
     };
     table.search(offset)
+}
+
+// All sites of the table at a place of the exception bytes, in table order, three numbers each (start, length and pad) at the front of a lent
+// list: how many, and whether every number of the table is spelled shortest. It refuses by 71, 72 and 54, and then the list is unchanged;
+// else what lies past the sites is as it was.
+pub fn list_sites(sites: &[u8], place: u64, held: &mut [u64]) -> Result<Listed, Question>
+    ensures answer_value { numbered result ≡ listed_of (list_at sites.now place (length held.old)) (sites_short sites.now place) }
+    ensures held_after { held.new ≡ sites_stored (list_at sites.now place (length held.old)) held.old }
+{
+    let Some(table) = table_at(sites, place) else {
+        return Err(Question::CallSiteTable);
+    };
+    let listed = table.count()?;
+    if ((held.len() / SITE_STRIDE) as u64) < listed.sites {
+        return Err(Question::OtherRoom);
+    }
+    table.store(held);
+    Ok(listed)
 }
 
 // ---- the answer

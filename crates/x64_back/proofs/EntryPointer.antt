@@ -7,14 +7,12 @@ use mathlib.Core.List.{List, [], ◌∷◌}
 use lib.Dec.{T, eqb}
 use lib.IntN.{ℤ}
 use mir.Facts.{eqb_no, yes_eqb, no_eqb}
-use Rattle.format.specs.Prelude.{pick, good}
+use Rattle.format.specs.Prelude.{pick}
 use Rattle.format.specs.declared.Seh.{Seh}
 use Rattle.format.specs.declared.Seh.TheVariants.{Push, Alloc, Frame, Save}
 use Rattle.format.specs.X64.{size64}
-use Rattle.format.specs.X64Reader.{Info, has_frame, read_x64}
 use Rattle.format.proofs.Choice.{pick_yes, pick_no}
-use Rattle.x64_back.specs.Given.{frame_of}
-use Rattle.x64_back.specs.Undo.{State, rsp, stack_pointer, set_at, loaded, with_register, with_memory, with_vector, does, prologue_from, below, base_in, done, undoes, undo_from, undone, names, Unnamed, KeptBy, FrameKept, FitsCode, AddressesFit}
+use Rattle.x64_back.specs.Undo.{State, rsp, stack_pointer, set_at, loaded, with_register, with_memory, with_vector, does, prologue_from, below, undoes, undo_from, names, Unnamed, KeptBy, FrameKept, FitsCode, AddressesFit}
 
 turned : (a b : ℕ) → T (not (eqb a b)) → T (not (eqb b a))
 turned a b t = no_eqb {a = b} {b = a} (λ e. eqb_no {a = a} {b = b} t (sym e))
@@ -61,7 +59,7 @@ module _ (base k : ℕ) (low : T (not (eqb rsp k))) where
 
 -- ---- the stack pointer
 
-goes_below : (base : ℕ) (c : Seh) (s : State) → T (not (names c rsp)) → stack_pointer (does base c s) ≡ below (stack_pointer s) c
+pub goes_below : (base : ℕ) (c : Seh) (s : State) → T (not (names c rsp)) → stack_pointer (does base c s) ≡ below (stack_pointer s) c
 unfolding does names below with_memory
 goes_below base (Push reg) s t = same (with_memory s (stack_pointer s - 8) 8 (s.registers reg)) (stack_pointer s - 8)
 goes_below base (Alloc z) s t = same s (stack_pointer s - size64 z)
@@ -74,6 +72,16 @@ unfolding does with_register set_at
 frame_set base reg z s = pick_yes (eqb reg reg) (stack_pointer s + size64 z) (s.registers reg) (yes_eqb {a = reg} {b = reg} refl)
 
 module _ (base base' : ℕ) where
+  -- the frame register behind the prologue, and when the codes behind its own are undone
+  pub frame_ahead : (reg : ℕ) (z : ℤ) (cs : List (ℕ × Seh)) (s : State) → T (not (eqb reg rsp)) → Unnamed reg cs
+      → (prologue_from base cs (does base (Frame reg z) s)).registers reg ≡ stack_pointer s + size64 z
+  frame_ahead reg z cs s t k = prologue_keeps base reg (turned reg rsp t) cs (does base (Frame reg z) s) k ∙ frame_set base reg z s
+
+  pub frame_back : (reg : ℕ) (z : ℤ) (cs : List (ℕ × Seh)) (s : State) → T (not (eqb reg rsp)) → Unnamed reg cs
+      → (undo_from base' cs (prologue_from base cs (does base (Frame reg z) s))).registers reg ≡ stack_pointer s + size64 z
+  frame_back reg z cs s t k =
+      undo_keeps base' reg (turned reg rsp t) cs (prologue_from base cs (does base (Frame reg z) s)) k ∙ frame_ahead reg z cs s t k
+
   -- one code, where undoing those behind it gives the stack pointer behind it
   one_back : (c : Seh) (cs : List (ℕ × Seh)) (s : State) → T (not (names c rsp)) → KeptBy c cs → FitsCode (stack_pointer s) c
       → stack_pointer (undo_from base' cs (prologue_from base cs (does base c s))) ≡ below (stack_pointer s) c
@@ -86,12 +94,8 @@ module _ (base base' : ℕ) where
       let u : State = undo_from base' cs (prologue_from base cs (does base (Alloc z) s)) in
       same u (stack_pointer u + size64 z) ∙ omega arith
   one_back (Frame reg z) cs s t k f e =
-      let d : State = does base (Frame reg z) s in
-      let u : State = undo_from base' cs (prologue_from base cs d) in
-      let low : T (not (eqb rsp reg)) = turned reg rsp t in
-      let kept : u.registers reg ≡ d.registers reg = undo_keeps base' reg low cs (prologue_from base cs d) k ∙ prologue_keeps base reg low cs d k in
-      let set : d.registers reg ≡ stack_pointer s + size64 z = frame_set base reg z s in
-      same u (u.registers reg - size64 z) ∙ omega arith
+      let u : State = undo_from base' cs (prologue_from base cs (does base (Frame reg z) s)) in
+      same u (u.registers reg - size64 z) ∙ omega (arith, frame_back reg z cs s t k)
   one_back (Save reg false z) cs s t k f e =
       let u : State = undo_from base' cs (prologue_from base cs (does base (Save reg false z) s)) in
       other u reg (loaded u.memory (base' + size64 z) 8) rsp t ∙ e
@@ -105,14 +109,3 @@ module _ (base base' : ℕ) where
       let e : stack_pointer (does base c.1 s) ≡ below (stack_pointer s) c.1 = goes_below base c.1 s n.0 in
       one_back c.1 cs s n.0 k.0 f.0
       (pointer_back cs (does base c.1 s) n.1 k.1 (subst (λ sp. AddressesFit sp cs) (sym e) f.1) ∙ e)
-
--- Law 2: what was read of any bytes, undone in reverse after the full prologue, gives the entry's stack pointer, where no code names the
--- stack pointer, none after a frame code names the frame register, and the addresses fit 64 bits.
-pub entry_pointer : (bytes : List ℕ) (place room : ℕ) (i : Info) → read_x64 bytes place room ≡ good i
-    → (s : State) → Unnamed rsp i.codes → FrameKept i.codes → AddressesFit (stack_pointer s) i.codes
-    → stack_pointer (undone i.codes (done i.codes s)) ≡ stack_pointer s
-unfolding undone done
-entry_pointer bytes place room i e s n k f =
-    pointer_back (base_in i.codes (stack_pointer s))
-    (pick (has_frame i.codes) ((done i.codes s).registers (frame_of i.codes).0 - (frame_of i.codes).1) (stack_pointer (done i.codes s)))
-    i.codes s n k f

@@ -3,4 +3,7 @@ pub mod CodeBack
 pub mod InfoBack
 pub mod SehBack
 pub mod EntryPointer
+pub mod FromHeader
+pub mod Undoing
+pub mod EntryBack
 pub mod Examples

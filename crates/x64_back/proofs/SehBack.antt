@@ -3,7 +3,7 @@ use mathlib.Core.Path.{◌≡◌, refl, ap, ◌∙◌}
 use Prim.Native.Nat.{ℕ, zero, suc, ◌+◌, ◌*◌, ◌≤◌, ◌<◌}
 use native.Mathlib.Omega.{arith}
 use mathlib.Core.Option.{Option, none, some}
-use mathlib.Core.List.{List, [], ◌∷◌, ◌++◌, map, append_assoc, append-nil}
+use mathlib.Core.List.{List, [], ◌∷◌, ◌++◌, map, append_assoc}
 use lib.Dec.{eqb, leb→le}
 use lib.ListN.{length, get_or, get_elem?, drop, length-append, length-drop, get_or-append}
 use lib.Seq.{drop_at, drop-append-le}
@@ -11,19 +11,20 @@ use Rattle.format.specs.Prelude.{pick, Result, good, bad, onward, each}
 use Rattle.format.specs.declared.Machine.{Machine}
 use Rattle.format.specs.declared.Seh.{Seh}
 use Rattle.format.specs.Machine.{machine_of}
+use Rattle.format.specs.Constants.{coff}
 use Rattle.format.specs.Lists.{Function, Prologue, prologue_stride, code_stride, function_stride, count, prologue_at, prologues_of}
 use Rattle.format.specs.Writer.{Written, joined}
 use Rattle.format.specs.X64.{codes_of, prologue_of, prologue_no, info_bytes, markers_from, x64}
 use Rattle.format.specs.X64Reader.{read_info, read_x64, info_numbers, codes_stored}
-use Rattle.format.specs.Questions.{per_function, no_at, code_asks, Room, room_in, room_asks, accepted, fitting, codes_answer, Prologues, made, stopped, made_one, prologues_for, prologues_answer, windows_answer, Given, given_functions, given_function, no_functions, format_answer, relaxed_table, seh}
+use Rattle.format.specs.Questions.{per_function, no_at, code_asks, Room, room_in, room_asks, Answer, accepted, fitting, codes_answer, Prologues, made, stopped, made_one, prologues_for, prologues_answer, windows_answer, Given, given_functions, given_function, no_functions, format_answer, relaxed_table, seh}
 use Rattle.format.specs.Answers.{Writes, afterwards}
 use Rattle.format.specs.Coded.{Outcome}
 use Rattle.x64.proofs.Results.{markers_length}
 use Rattle.format.proofs.Choice.{if-le}
 use Rattle.format.proofs.Accepted.{asked, both, function_at_lem, passed, not_empty}
-use Rattle.format.proofs.ListLaws.{each_get, each-length}
+use Rattle.format.proofs.ListLaws.{each_get, found_inside}
 use Rattle.format.proofs.Copied.{put_front}
-use Rattle.x64_back.specs.Given.{frame_codes, given, ReadBack}
+use Rattle.x64_back.specs.Given.{frame_codes, given, ReadAsGiven, ReadBack, RowsBack}
 use Rattle.x64_back.proofs.InfoBack.{info_back}
 
 -- ---- acceptance
@@ -66,46 +67,6 @@ stands before at (x ∷ xs) (suc k) p l g =
 
 -- ---- a list of functions with their codes
 
-module _ (ps : List Prologue) (r : Room) (w : Written) (e : codes_answer ps r ≡ accepted w) (k : ℕ) (p : Prologue) (g : get_elem? ps k ≡ some p) where
-  -- also where something stands behind the infos
-  pub record_back : (tail : List ℕ) → frame_codes p.codes ≤ 1 → (room : ℕ) → code_stride * length p.codes ≤ room
-      → read_x64 (w.sites ++ tail) (get_or w.places k 0) room ≡ good (given p)
-  unfolding codes_answer code_asks fitting x64 read_x64 onward info_of given
-  record_back tail one room h =
-      let a = passed _ _ _ e in
-      let b = passed _ _ _ a.1 in
-      let is : x64 ps ≡ w = cc in
-      let place : ℕ = get_or (markers_from 0 ps) k 0 in
-      let infos : List ℕ = joined (map info_of ps) in
-      let s : Stands (info_of p) infos place = stands [] 0 ps k p refl g in
-      let l : place ≤ length infos =
-      omega (arith, length-drop place infos, ap length s.there, length-append (info_of p) s.rest, info_some p) in
-      let d : drop place (infos ++ tail) ≡ info_of p ++ (s.rest ++ tail) =
-      drop-append-le place infos tail l ∙ rw s.there (append_assoc (info_of p) s.rest tail) in
-      let i : read_info (drop (get_or w.places k 0) (w.sites ++ tail)) ≡ good (given p) =
-      rw (← is) (rw d (info_back p (s.rest ++ tail) (asked_at 0 ps k p a.0 g) one)) in
-      rw i (if-le (code_stride * length p.codes) room (good (given p)) (bad 54) h)
-
-seh_before : (fs codes : List ℕ) (r : Room) (w : Written) → seh fs codes r ≡ accepted w → (k : ℕ) → k < count prologue_stride fs → (tail : List ℕ)
-    → frame_codes (prologue_at fs codes k).codes ≤ 1 → (room : ℕ) → code_stride * length (prologue_at fs codes k).codes ≤ room
-    → read_x64 (w.sites ++ tail) (get_or w.places k 0) room ≡ good (given (prologue_at fs codes k))
-unfolding seh prologues_of
-seh_before fs codes r w e k h =
-    let a = passed _ _ _ (not_empty (eqb (count prologue_stride fs) 0) _ w e) in
-    let b = passed _ _ _ a.1 in
-    let at : get_elem? (each (prologue_at fs codes) 0 (count prologue_stride fs)) k ≡ some (prologue_at fs codes k) =
-    each_get (prologue_at fs codes) 0 (count prologue_stride fs) k h ∙ ap (λ (i : ℕ). some (prologue_at fs codes i)) (omega arith) in
-    record_back (each (prologue_at fs codes) 0 (count prologue_stride fs)) r w b.1 k (prologue_at fs codes k) at
-
--- Law 1: what `seh` wrote of function k, with at most one frame code, reads at its marker as it was given.
-pub seh_back : (fs codes : List ℕ) (r : Room) (w : Written) → seh fs codes r ≡ accepted w → (k : ℕ) → k < count prologue_stride fs
-    → frame_codes (prologue_at fs codes k).codes ≤ 1 → (room : ℕ) → code_stride * length (prologue_at fs codes k).codes ≤ room
-    → read_x64 w.sites (get_or w.places k 0) room ≡ good (given (prologue_at fs codes k))
-seh_back fs codes r w e k h one room l =
-    rw (append-nil w.sites) at (seh_before fs codes r w e k h [] one room l)
-
--- ---- the buffers that `seh` was lent
-
 record Fits (r : Room) (w : Written) : Type 0 where
   places : length w.places ≤ r.places
   sites : length w.sites ≤ r.sites
@@ -120,35 +81,78 @@ room_yes r w e =
       sites = leb→le (length w.sites) r.sites (asked _ 54 0 b.1);
     }
 
-record Rooms (fs codes : List ℕ) (r : Room) (w : Written) : Type 0 where
+module _ (ps : List Prologue) (r : Room) (w : Written) (e : codes_answer ps r ≡ accepted w) where
   fits : Fits r w
-  many : length w.places ≡ count prologue_stride fs
+  unfolding codes_answer fitting
+  fits =
+      let a = passed _ _ _ e in
+      let b = passed _ _ _ a.1 in
+      let is : x64 ps ≡ w = cc in
+      rw is at (room_yes r (x64 ps) b.0)
 
-rooms : (fs codes : List ℕ) (r : Room) (w : Written) → seh fs codes r ≡ accepted w → Rooms fs codes r w
-unfolding seh prologues_of codes_answer fitting x64
-rooms fs codes r w e =
-    let a = passed _ _ _ (not_empty (eqb (count prologue_stride fs) 0) _ w e) in
-    let b = passed _ _ _ a.1 in
-    let c = passed _ _ _ b.1 in
-    let d = passed _ _ _ c.1 in
-    let ps : List Prologue = each (prologue_at fs codes) 0 (count prologue_stride fs) in
-    let is : x64 ps ≡ w = cc in
-    record { fits = rw is at (room_yes r (x64 ps) d.0); many = rw (← is) (markers_length 0 ps ∙ each-length (prologue_at fs codes) 0 (count prologue_stride fs)) }
+  many : length w.places ≡ length ps
+  unfolding codes_answer fitting x64
+  many =
+      let a = passed _ _ _ e in
+      let b = passed _ _ _ a.1 in
+      let is : x64 ps ≡ w = cc in
+      rw (← is) (markers_length 0 ps)
+
+  module _ (k : ℕ) (p : Prologue) (g : get_elem? ps k ≡ some p) where
+    -- also where something stands behind the infos
+    record_back : (tail : List ℕ) → frame_codes p.codes ≤ 1 → (room : ℕ) → code_stride * length p.codes ≤ room
+        → read_x64 (w.sites ++ tail) (get_or w.places k 0) room ≡ good (given p)
+    unfolding codes_answer code_asks fitting x64 read_x64 onward info_of given
+    record_back tail one room h =
+        let a = passed _ _ _ e in
+        let b = passed _ _ _ a.1 in
+        let is : x64 ps ≡ w = cc in
+        let place : ℕ = get_or (markers_from 0 ps) k 0 in
+        let infos : List ℕ = joined (map info_of ps) in
+        let s : Stands (info_of p) infos place = stands [] 0 ps k p refl g in
+        let l : place ≤ length infos =
+        omega (arith, length-drop place infos, ap length s.there, length-append (info_of p) s.rest, info_some p) in
+        let d : drop place (infos ++ tail) ≡ info_of p ++ (s.rest ++ tail) =
+        drop-append-le place infos tail l ∙ rw s.there (append_assoc (info_of p) s.rest tail) in
+        let i : read_info (drop (get_or w.places k 0) (w.sites ++ tail)) ≡ good (given p) =
+        rw (← is) (rw d (info_back p (s.rest ++ tail) (asked_at 0 ps k p a.0 g) one)) in
+        rw i (if-le (code_stride * length p.codes) room (good (given p)) (bad 54) h)
+
+-- what the reader makes of a writer's buffers, where its answer is that of prologues: function k is read as it was given
+record Read (s' : List ℕ) (place : ℕ) (old ns new : List ℕ) : Type 0 where
+  answer : ns ≡ info_numbers (read_x64 s' place (length old))
+  stored : new ≡ codes_stored (read_x64 s' place (length old)) old
+
+buffers_back : (ps : List Prologue) (p b q s : List ℕ) (w : Written) → codes_answer ps (room_in p b q s) ≡ accepted w → (k : ℕ) (f : Prologue)
+    → get_elem? ps k ≡ some f → {a : Answer} {o : Outcome} {p' b' q' s' ns new : List ℕ} (old : List ℕ) {place : ℕ} → a ≡ accepted w
+    → Writes a o p p' b b' q q' s s' → place ≡ get_or p' k 0 → Read s' place old ns new → ReadAsGiven f ns old new
+unfolding afterwards
+buffers_back ps p b q s w e k f g {p' = p'} {s' = s'} {ns} {new} old {place} is writes at h one room =
+    let r : Room = room_in p b q s in
+    let fit : Fits r w = fits ps r w e in
+    let marks : p' ≡ w.places ++ drop (length w.places) p = (rw is at writes.placed) ∙ put_front p w.places fit.places in
+    let infos : s' ≡ w.sites ++ drop (length w.sites) s = (rw is at writes.sited) ∙ put_front s w.sites fit.sites in
+    let there : place ≡ get_or w.places k 0 =
+    at ∙ rw marks (get_or-append w.places (drop (length w.places) p) 0 k (omega (arith, many ps r w e, found_inside ps k g))) in
+    let read : read_x64 s' place (length old) ≡ good (given f) =
+    rw (infos, there) (record_back ps r w e k f g (drop (length w.sites) s) one (length old) room) in
+    (rw read at h.answer, rw read at h.stored)
+
+-- ---- direct codes
 
 -- `seh`, and then the reader on its buffers
 pub together : (fs codes p b q s : List ℕ) {p' b' q' s' ns new : List ℕ} (old : List ℕ) {o : Outcome} (k : ℕ) {place : ℕ}
     → Writes (seh fs codes (room_in p b q s)) o p p' b b' q q' s s' → place ≡ get_or p' k 0
-    → (ns ≡ info_numbers (read_x64 s' place (length old))) × (new ≡ codes_stored (read_x64 s' place (length old)) old)
+    → ns ≡ info_numbers (read_x64 s' place (length old)) → new ≡ codes_stored (read_x64 s' place (length old)) old
     → ReadBack fs codes (seh fs codes (room_in p b q s)) k ns old new
-unfolding afterwards
-together fs codes p b q s {p' = p'} {s' = s'} old k {place = place} writes e h w a l one room =
-    let f = rooms fs codes (room_in p b q s) w a in
-    let marks : p' ≡ w.places ++ drop (length w.places) p = (rw a at writes.placed) ∙ put_front p w.places f.fits.places in
-    let infos : s' ≡ w.sites ++ drop (length w.sites) s = (rw a at writes.sited) ∙ put_front s w.sites f.fits.sites in
-    let at : place ≡ get_or w.places k 0 = e ∙ rw marks (get_or-append w.places (drop (length w.places) p) 0 k (omega (arith, f.many))) in
-    let r : read_x64 s' place (length old) ≡ good (given (prologue_at fs codes k)) =
-    rw (infos, at) (seh_before fs codes (room_in p b q s) w a k l (drop (length w.sites) s) one (length old) room) in
-    rw r at h
+unfolding seh prologues_of
+together fs codes p b q s old k writes at h n w e l =
+    let a = passed _ _ _ (not_empty (eqb (count prologue_stride fs) 0) _ w e) in
+    let c = passed _ _ _ a.1 in
+    let found : get_elem? (each (prologue_at fs codes) 0 (count prologue_stride fs)) k ≡ some (prologue_at fs codes k) =
+    each_get (prologue_at fs codes) 0 (count prologue_stride fs) k l ∙ ap (λ (i : ℕ). some (prologue_at fs codes i)) (omega arith) in
+    buffers_back (each (prologue_at fs codes) 0 (count prologue_stride fs)) p b q s w c.1 k (prologue_at fs codes k) found old e writes at
+    (record { answer = h; stored = n })
 
 -- ---- COFF: the codes by a function's rows
 
@@ -197,25 +201,21 @@ unfolding prologues_answer
 answered (made ps) r w e = record { prologues = ps; are = refl; answer = e }
 answered (stopped n k) r w e = let z : ◌≡◌ {A = ℕ} 0 1 = cc in absurd (omega arith)
 
--- The same of what `relaxed_table` wrote in COFF: function k's rows have codes, and where at most one of them is a frame code its record
--- reads as these.
-pub record CoffBack (g : Given) (w : Written) (k : ℕ) : Type 0 where
-  pub codes : List (ℕ × Seh)
-  pub are : codes_of (machine_of g.machine) (given_function g k) ≡ good codes
-  pub back : frame_codes codes ≤ 1 → (room : ℕ) → code_stride * length codes ≤ room
-      → read_x64 w.sites (get_or w.places k 0) room ≡ good (given (prologue_of (given_function g k) codes))
-
-pub coff_back : (g : Given) (r : Room) (w : Written) → relaxed_table 1 g r ≡ accepted w → (k : ℕ) → k < count function_stride g.functions
-    → CoffBack g w k
-unfolding relaxed_table format_answer windows_answer prologue_of pick
-coff_back g r w e k h =
+-- `relaxed_table` in COFF, and then the reader on its buffers
+pub rows_together : (g : Given) (p b q s : List ℕ) {p' b' q' s' ns new : List ℕ} (old : List ℕ) {o : Outcome} (k : ℕ) {place : ℕ}
+    → Writes (relaxed_table coff g (room_in p b q s)) o p p' b b' q q' s s' → place ≡ get_or p' k 0
+    → ns ≡ info_numbers (read_x64 s' place (length old)) → new ≡ codes_stored (read_x64 s' place (length old)) old
+    → RowsBack g (relaxed_table coff g (room_in p b q s)) k ns old new
+unfolding relaxed_table format_answer windows_answer pick
+rows_together g p b q s old k writes at h n w e l =
     let m : Machine = machine_of g.machine in
     let a = passed _ _ _ (not_empty (no_functions g) _ w e) in
-    let b = passed _ _ _ a.1 in
-    let c = answered (prologues_for m 0 (given_functions g)) r w b.1 in
-    let d = made_at m 0 (given_functions g) c.prologues k (given_function g k) c.are (function_at_lem g k h) in
+    let c = answered (prologues_for m 0 (given_functions g)) (room_in p b q s) w (passed _ _ _ a.1).1 in
+    let d = made_at m 0 (given_functions g) c.prologues k (given_function g k) c.are (function_at_lem g k l) in
     record {
       codes = d.codes;
       are = d.are;
-      back = λ one room l. rw (append-nil w.sites) at (record_back c.prologues r w c.answer k (prologue_of (given_function g k) d.codes) d.there [] one room l);
+      read =
+          buffers_back c.prologues p b q s w c.answer k (prologue_of (given_function g k) d.codes) d.there old e writes at
+          (record { answer = h; stored = n });
     }

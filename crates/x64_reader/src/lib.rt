@@ -107,10 +107,10 @@ fn code_at(s: &[u8], at: Position, frame: u8) -> Option<Code>
 
 // A record's slots from a position on, code by code. One that cannot be read is None, and the last.
 #[derive(Drop)]
-struct Slots<'a> {
-    bytes: &'a [u8],
-    frame: u8,
-    at: Position,
+pub struct Slots<'a> {
+    pub bytes: &'a [u8],
+    pub frame: u8,
+    pub at: Position,
 }
 
 impl Iterator for Slots<'_> {
@@ -137,7 +137,7 @@ impl Iterator for Slots<'_> {
     }
 }
 
-fn slots_in(bytes: &[u8], frame: u8) -> Slots
+pub fn slots_in(bytes: &[u8], frame: u8) -> Slots
     ensures { (result.bytes.now ≡ bytes.now) × (result.frame ≡ frame) × (result.at ≡ from 0) }
 {
     Slots {
@@ -156,7 +156,7 @@ fn or_frame(framed: bool, code: Seh) -> bool
 
 // Kept: n beside framed: one pass gives both and stops at a code that cannot be read; `count` and `any` would be two passes.
 // How many codes there are, and whether one sets the frame register, where each can be read.
-fn count(s: &[u8], frame: u8) -> Option<(usize, bool)>
+pub fn count(s: &[u8], frame: u8) -> Option<(usize, bool)>
     ensures { result ≡ counted_of (read_codes frame s.now) }
 {
     let mut n = 0usize;
@@ -224,7 +224,7 @@ pub struct Header<'a> {
     pub slots: &'a [u8],
 }
 
-fn header_at(info: &[u8], place: u64) -> Option<Header>
+pub fn header_at(info: &[u8], place: u64) -> Option<Header>
     ensures { HeaderSays info.now place result }
 {
     let size = info.len();

@@ -1,7 +1,7 @@
 -- `call_sites::entry_at` meets its contract.
 use mathlib.Core.Path.{sym}
 use native.Mathlib.Omega.{arith}
-use Rattle.call_sites.proofs.Entries.{no_start, no_length, no_pad, no_action, too_far, one_entry}
+use Rattle.call_sites.proofs.OneEntry.{no_start, no_length, no_pad, no_action, too_far, one_entry}
 use Rattle.call_sites.proofs.entry_at.Goals as goal
 
 pub returns-in_err-start : goal.returns-in_err-start

@@ -2,7 +2,7 @@
 use mathlib.Core.Path.{refl, ◌∙◌}
 use native.Mathlib.Omega.{arith}
 use borrow.Author.Tests.{lt-leb}
-use Rattle.call_sites.proofs.Entries.{before_start, from_start}
+use Rattle.call_sites.proofs.OneEntry.{before_start, from_start}
 use Rattle.call_sites.proofs.Entry.covers.Goals as goal
 
 pub returns-then-self-offset : goal.returns-then-self-offset

@@ -1,10 +1,9 @@
-use Prim.Native.Nat.{◌-◌}
-use lib.ListN.{length}
-use Rattle.call_sites.proofs.Runs.{Going}
+use mathlib.Core.Path.{◌≡◌}
+use Rattle.call_sites.proofs.Runs.{Reading, Covering}
 use Rattle.call_sites.proofs.Table.search.Given as goal
 
-abbrev pub invariant-loop-at : goal.invariant-loop-at
-invariant-loop-at l = Going l.offset l.s l.self.shortest l.at l.found
-
-abbrev pub decreases-loop-at : goal.decreases-loop-at
-decreases-loop-at l = length l.s - l.at.at
+abbrev pub invariant-loop-read : goal.invariant-loop-read
+invariant-loop-read l = record {
+  reading : Reading (Covering l.offset l.found) l.self.entries.now l.self.shortest l.read-iterator;
+  mark : l.shortest ≡ l.read-iterator.at.shortest
+}
