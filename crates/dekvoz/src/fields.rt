@@ -4,6 +4,7 @@ ghost use Rattle.parts.specs.Entries.{next_entry};
 ghost use Rattle.parts.specs.Headers.{read_header_at};
 ghost use Rattle.parts.specs.Records.{read_record_at};
 ghost use Rattle.parts.specs.Operations.{read_operation_at};
+ghost use Rattle.parts.specs.Agrees.{HeaderTaken, RecordTaken};
 
 use parts::EntryRead;
 use parts::headers::HeaderRead;
@@ -21,7 +22,8 @@ pub extern "C" fn unwind_next_entry(section: &[u8], kind: u64, at: u64) -> Entry
 // The header at a place: 0; 11, 61, 63 where it is a record, 64 and the field at fault.
 #[unsafe(no_mangle)]
 pub extern "C" fn unwind_read_header(section: &[u8], kind: u64, word: u64, place: u64) -> HeaderRead
-    ensures { result ≡ read_header_at section.now kind word place }
+    ensures result_value { result ≡ read_header_at section.now kind word place }
+    ensures taken { HeaderTaken section.now kind word place result }
 {
     parts::headers::unwind_read_header(section, kind, word, place)
 }
@@ -35,7 +37,8 @@ pub extern "C" fn unwind_read_record(
     pointer: u64,
     place: u64,
 ) -> RecordRead
-    ensures { result ≡ read_record_at section.now kind word pointer place }
+    ensures result_value { result ≡ read_record_at section.now kind word pointer place }
+    ensures taken { RecordTaken section.now kind word pointer place result }
 {
     parts::records::unwind_read_record(section, kind, word, pointer, place)
 }

@@ -20,6 +20,7 @@ use Rattle.reader.specs.Spans.{part}
 use Rattle.parts.specs.Faults.{version_field, string_field, code_factor_field, data_factor_field, return_field, header_data_field, function_field, length_field, record_data_field, reading, testing}
 use Rattle.parts.specs.Headers.{HeaderParts, header_rest, header_from, header_parts, no_header, header_numbers, header_of, read_header_at}
 use Rattle.parts.specs.Records.{RecordParts, record_rest, record_parts, no_record, record_numbers, record_of, read_record_at}
+use Rattle.parts.specs.Agrees.{Faulty, Named}
 use Rattle.parts.specs.declared.headers.HeaderRead.{HeaderRead}
 use Rattle.parts.specs.declared.records.RecordRead.{RecordRead}
 
@@ -65,17 +66,10 @@ agree_header debug word bs =
 -- what is answered of a header that ends at `end`
 pub record HeaderSays (end : ℕ) (f : HeaderFields) (r : HeaderRead) : Type 0 where
   pub answered : r.number ≡ 0
-  pub faultless : r.«field» ≡ 0
   pub pointer : r.pointer ≡ f.pointer
   pub signal : r.signal ≡ bit f.signal
   pub operations : r.operations ≡ end - length f.operations
   pub ends : r.end ≡ end
-
--- a refusal by 64, with its field
-pub record Faulty (number fault lo hi : ℕ) : Type 0 where
-  pub refused : number ≡ 64
-  pub least : lo ≤ fault
-  pub most : fault ≤ hi
 
 abbrev pub HeaderAgrees : (end : ℕ) → HeaderRead → Option HeaderFields → Type 0
 HeaderAgrees end r none = Faulty r.number r.«field» 1 6
@@ -83,7 +77,7 @@ HeaderAgrees end r (some f) = HeaderSays end f r
 
 header_says : (end : ℕ) {r : Result HeaderParts} {o : Option HeaderFields} → Agree (λ (x : HeaderParts). x.fields) 1 6 r o → HeaderAgrees end (header_numbers end r) o
 unfolding header_numbers no_header
-header_says end (both a) = record { answered = refl; faultless = refl; pointer = refl; signal = refl; operations = refl; ends = refl }
+header_says end (both a) = record { answered = refl; pointer = refl; signal = refl; operations = refl; ends = refl }
 header_says end (neither n a b) = record { refused = refl; least = a; most = b }
 
 -- number 0 exactly where `parse_header` answers, and its fields
@@ -110,7 +104,6 @@ agree_record debug word pointer bs =
 -- what is answered of a record that ends at `end`
 pub record RecordSays (end : ℕ) (f : RecordFields) (r : RecordRead) : Type 0 where
   pub answered : r.number ≡ 0
-  pub faultless : r.«field» ≡ 0
   pub size : r.length ≡ f.size
   pub operations : r.operations ≡ end - length f.operations
   pub ends : r.end ≡ end
@@ -122,7 +115,7 @@ RecordAgrees end r (some f) = RecordSays end f r
 record_says : (debug : Bool) (pointer end : ℕ) {r : Result RecordParts} {o : Option RecordFields}
     → Agree (λ (x : RecordParts). x.fields) 7 9 r o → RecordAgrees end (record_numbers debug pointer end r) o
 unfolding record_numbers no_record
-record_says debug pointer end (both a) = record { answered = refl; faultless = refl; size = refl; operations = refl; ends = refl }
+record_says debug pointer end (both a) = record { answered = refl; size = refl; operations = refl; ends = refl }
 record_says debug pointer end (neither n a b) = record { refused = refl; least = a; most = b }
 
 -- number 0 exactly where `parse_record` answers, and its fields
@@ -131,9 +124,6 @@ pub record_agrees : (debug : Bool) (word pointer end : ℕ) (bs : List ℕ)
 record_agrees debug word pointer end bs = record_says debug pointer end (agree_record debug word pointer bs)
 
 -- ---- `field` is 0 exactly where the number is not 64
-
-abbrev pub Named : (number fault : ℕ) → Type 0
-Named number fault = (number ≡ 64 → 0 < fault) × ((number ≡ 64 → ⊥) → fault ≡ 0)
 
 named_pick : {X : Type 0} (number fault : X → ℕ) (test : Bool) (a b : X) → Named (number a) (fault a) → Named (number b) (fault b)
     → Named (number (pick test a b)) (fault (pick test a b))

@@ -1,21 +1,24 @@
 -- At an entry of a section: a header or a record is answered exactly where the reader takes its fields, with the same values and the same operations.
-use Rattle.std.specs.Prelude.{Some}
-use mathlib.Core.Path.{◌≡◌, refl}
-use mathlib.Core.Bool.{Bool, true, false}
+use Rattle.std.specs.Prelude.{Some, None}
+use Rattle.std.specs.Prelude as code
+use mathlib.Core.Path.{◌≡◌, refl, sym, ◌∙◌}
+use mathlib.Core.Bool.{Bool, true, false, ◌&&◌}
 use mathlib.Core.Option.{Option, none, some}
 use mathlib.Core.List.{List}
 use Prim.Native.Nat.{ℕ, ◌+◌, ◌≤◌, ◌<◌}
 use native.Mathlib.Omega.{arith}
-use lib.Dec.{eqb}
+use lib.Dec.{T, leb, eqb, leb→le}
+use mir.Facts.{and_yes}
 use lib.ListN.{length}
-use Rattle.format.specs.Prelude.{good}
+use Rattle.format.specs.Prelude.{Result, good, bad}
+use Rattle.format.proofs.Choice.{either, is_true}
 use Rattle.format.specs.Machine.{is_word_size}
-use Rattle.format.specs.Answers.{bit}
 use Rattle.format.specs.Reader.{is_header, HeaderFields, parse_header, RecordFields, parse_record}
 use Rattle.reader.specs.Spans.{part, entry_in, end_at}
 use Rattle.reader.proofs.Tiling.{entered}
 use Rattle.reader.specs.Listing.{entry_at}
-use Rattle.reader.proofs.Steps.{spanned, at_there, entry_fits}
+use Rattle.reader.specs.declared.cursor.Entry.{Entry}
+use Rattle.reader.proofs.Steps.{spanned, at_end_lem, at_none, at_there, entry_fits}
 use Rattle.parts.specs.Headers.{header_parts, header_numbers, read_header_at}
 use Rattle.parts.specs.Records.{record_parts, record_numbers, read_record_at}
 use Rattle.parts.specs.declared.headers.HeaderRead.{HeaderRead}
@@ -23,27 +26,9 @@ use Rattle.parts.specs.declared.records.RecordRead.{RecordRead}
 use Rattle.parts.proofs.Entered.{laid, body_ends, at_header, at_record}
 use Rattle.parts.proofs.Headed.{header_entry_lem}
 use Rattle.parts.proofs.Recorded.{record_entry_lem}
-use Rattle.parts.proofs.Agrees.{Faulty, HeaderAgrees, header_agrees, RecordAgrees, record_agrees}
+use Rattle.parts.specs.Agrees.{HeaderReading, HeaderTaken, RecordReading, RecordTaken}
+use Rattle.parts.proofs.Agrees.{HeaderAgrees, header_agrees, header_named, RecordAgrees, record_agrees, record_named}
 use Rattle.parts.proofs.Suffixes.{header_operations, record_operations}
-
-pub record HeaderReads (section : List ℕ) (f : HeaderFields) (r : HeaderRead) : Type 0 where
-  pub answered : r.number ≡ 0
-  pub pointer : r.pointer ≡ f.pointer
-  pub signal : r.signal ≡ bit f.signal
-  pub operations : part section r.operations r.end ≡ f.operations
-
-abbrev pub HeaderReading : List ℕ → HeaderRead → Option HeaderFields → Type 0
-HeaderReading section r none = Faulty r.number r.«field» 1 6
-HeaderReading section r (some f) = HeaderReads section f r
-
-pub record RecordReads (section : List ℕ) (f : RecordFields) (r : RecordRead) : Type 0 where
-  pub answered : r.number ≡ 0
-  pub size : r.length ≡ f.size
-  pub operations : part section r.operations r.end ≡ f.operations
-
-abbrev pub RecordReading : List ℕ → RecordRead → Option RecordFields → Type 0
-RecordReading section r none = Faulty r.number r.«field» 7 9
-RecordReading section r (some f) = RecordReads section f r
 
 -- the entry from `place` to q
 module _ (section : List ℕ) (kind word place : ℕ) (w : is_word_size word ≡ true) (k : kind ≤ 1) (h : place < length section) {q : ℕ} (e : end_at section place ≡ Some q) where
@@ -92,3 +77,56 @@ module _ (section : List ℕ) (kind word place : ℕ) (w : is_word_size word ≡
     record_at t =
         rw (at_record (record_entry_lem section kind word pointer place) (laid kind word w k) there t, ends)
         (record_reads (record_numbers debug pointer q (record_parts debug word pointer bytes)) (parse_record debug word pointer bytes) refl (record_agrees debug word pointer q bytes))
+
+-- ---- an entry that stands at a place
+
+record There (debug : Bool) (section : List ℕ) (place : ℕ) (e : Entry) : Type 0 where
+  end : ℕ
+  ends : end_at section place ≡ Some end
+  inside : place < length section
+  is : spanned debug section place end ≡ e
+
+module _ (debug : Bool) (section : List ℕ) (place : ℕ) (e : Entry) (here : entry_at debug section place ≡ good e) where
+  there_by : (o : code.Option ℕ) → end_at section place ≡ o → place < length section → There debug section place e
+  there_by None q h = let z : ◌≡◌ {A = Result Entry} (bad 61) (good e) = sym (at_none debug section place h q) ∙ here in let y : ◌≡◌ {A = ℕ} 0 1 = cc in absurd (omega arith)
+  there_by (Some n) q h =
+      let same : good (spanned debug section place n) ≡ good e = sym (at_there debug section place h q) ∙ here in
+      record { end = n; ends = q; inside = h; is = cc }
+
+  there_is : There debug section place e
+  there_is =
+      either (length section) place
+      (λ h. let z : ◌≡◌ {A = Result Entry} (bad 62) (good e) = sym (at_end_lem debug section place h) ∙ here in let y : ◌≡◌ {A = ℕ} 0 1 = cc in absurd (omega arith))
+      (λ h. there_by (end_at section place) refl h)
+
+-- ---- what the exports promise
+
+module _ (section : List ℕ) (kind word place : ℕ) where
+  header_taken_at : (e : Entry) → There (eqb kind 1) section place e → T (is_word_size word && leb kind 1) → e.header ≡ true
+      → HeaderReading section (read_header_at section kind word place) (parse_header (eqb kind 1) word (part section (e.place + 4) e.next))
+  header_taken_at e k t h =
+      let a = and_yes (is_word_size word) (leb kind 1) t in
+      rw (← k.is) (header_at section kind word place (is_true (is_word_size word) a.0) (leb→le kind 1 a.1) k.inside k.ends (rw (← k.is) at h))
+
+  pub header_taken : {r : HeaderRead} → r ≡ read_header_at section kind word place → HeaderTaken section kind word place r
+  header_taken e =
+      rw e
+      (record {
+        agrees = λ x t here h. header_taken_at x (there_is (eqb kind 1) section place x here) t h;
+        named = header_named section kind word place;
+      })
+
+  module _ (pointer : ℕ) where
+    record_taken_at : (e : Entry) → There (eqb kind 1) section place e → T (is_word_size word && leb kind 1) → e.header ≡ false
+        → RecordReading section (read_record_at section kind word pointer place) (parse_record (eqb kind 1) word pointer (part section (e.place + 4) e.next))
+    record_taken_at e k t h =
+        let a = and_yes (is_word_size word) (leb kind 1) t in
+        rw (← k.is) (record_at section kind word place (is_true (is_word_size word) a.0) (leb→le kind 1 a.1) k.inside k.ends pointer (rw (← k.is) at h))
+
+    pub record_taken : {r : RecordRead} → r ≡ read_record_at section kind word pointer place → RecordTaken section kind word pointer place r
+    record_taken e =
+        rw e
+        (record {
+          agrees = λ x t here h. record_taken_at x (there_is (eqb kind 1) section place x here) t h;
+          named = record_named section kind word pointer place;
+        })

@@ -4,3 +4,4 @@ pub mod Operations
 pub mod Faults
 pub mod Headers
 pub mod Records
+pub mod Agrees

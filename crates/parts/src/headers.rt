@@ -4,6 +4,7 @@ ghost use Rattle.format.specs.Numbers.{number_of};
 ghost use Rattle.reader.specs.Fields.{letters_of};
 ghost use Rattle.parts.specs.Faults.{fault_number};
 ghost use Rattle.parts.specs.Headers.{no_header, header_rest, header_from, header_parts, header_numbers, header_answer, read_header_at};
+ghost use Rattle.parts.specs.Agrees.{HeaderTaken};
 
 use crate::body::Placed;
 use crate::field::{self, Field};
@@ -130,7 +131,8 @@ impl Placed<'_> {
 // The header at a place: 0; 11, 61, 63 where it is a record, 64 and the field at fault.
 #[unsafe(no_mangle)]
 pub extern "C" fn unwind_read_header(section: &[u8], kind: u64, word: u64, place: u64) -> HeaderRead
-    ensures { result ≡ read_header_at section.now kind word place }
+    ensures result_value { result ≡ read_header_at section.now kind word place }
+    ensures taken { HeaderTaken section.now kind word place result }
 {
     let Some(layout) = reader::layout_of(kind, word) else {
         return refused(Question::Interface, None);

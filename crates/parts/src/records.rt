@@ -3,6 +3,7 @@ ghost use Rattle.std.specs.Prelude.{◌≡◌, ◌+◌, ◌≤◌, length, drop}
 ghost use Rattle.format.specs.Numbers.{number_of};
 ghost use Rattle.parts.specs.Faults.{fault_number};
 ghost use Rattle.parts.specs.Records.{call_site_bytes, no_record, record_rest, record_parts, record_numbers, record_answer, read_record_at};
+ghost use Rattle.parts.specs.Agrees.{RecordTaken};
 
 use crate::body::Placed;
 use crate::field::{self, Field};
@@ -123,7 +124,8 @@ pub extern "C" fn unwind_read_record(
     pointer: u64,
     place: u64,
 ) -> RecordRead
-    ensures { result ≡ read_record_at section.now kind word pointer place }
+    ensures result_value { result ≡ read_record_at section.now kind word pointer place }
+    ensures taken { RecordTaken section.now kind word pointer place result }
 {
     let Some(layout) = reader::layout_of(kind, word) else {
         return refused(Question::Interface, None);

@@ -1,6 +1,7 @@
 -- The laws of the walk.
 pub mod SameSource
 pub mod ByRows
+pub mod VisitedFrames
 pub mod Leaves
 pub mod Holders
 pub mod Trailers

@@ -1,5 +1,6 @@
--- Demand 3 for a whole chain of callers (document 02, W-202): the walk by a section that was written, against the functions' rows. Nothing here says what a writer writes or how the reader reads.
-use Rattle.std.specs.Prelude.{◌≡◌, ℕ, ◌*◌, ◌<◌, Bool, ◌||◌, List, T, eqb, length, take}
+-- The read-back theorem for a whole chain of callers: the walk by a section that was written, against the functions'
+-- rows. Nothing here says what a writer writes or how the reader reads.
+use Rattle.std.specs.Prelude.{◌≡◌, ℕ, ◌*◌, ◌<◌, Bool, ◌||◌, List, All, T, eqb, length, take}
 use Rattle.std.proofs.Math.Option.{none}
 use Rattle.format.specs.Prelude.{Result}
 use Rattle.format.specs.declared.Counts.{Counts}
@@ -12,6 +13,7 @@ use Rattle.format.specs.RowCheck.{row_check_at}
 use Rattle.unwind.specs.Together.{bytes_in, relocs_in}
 use Rattle.unwind.specs.Demand.{dwarf_output}
 use Rattle.walk.specs.Walk.{Chain, walk_by, by_section, by_rows}
+use Rattle.walk.specs.Visited.{visited}
 use Rattle.walked.specs.Entry.{numbers_of, chain_numbers, chain_stored}
 use Rattle.walked.specs.declared.Answer.{Answer}
 
@@ -20,7 +22,9 @@ unfoldable pub walk_for : (debug : Bool) (machine : List ℕ) → Outcome → (b
 walk_for debug machine o bytes relocations file pc stack placed room =
     walk_by (by_section (take (bytes_in o) bytes) (take (relocation_stride * relocs_in o) relocations) (bit debug)) machine file pc stack placed room
 
--- function k that is placed is function k of the list, has no relaxing labels, passes the row check, and has its length
+-- Function k that is placed is function k of the list, has no relaxing labels, passes the row check, and has its
+-- length. The positions are tied, since the frames name a function by its position and the section's records are
+-- found by it: a function of the list that is not told of has a length of 0 there, which holds no address.
 pub record Placing (g : Given) (placed : List ℕ) (k : ℕ) : Type 0 where
   pub there : k < count function_stride g.functions
   pub plain : (given_function g k).relaxed ≡ none
@@ -37,7 +41,21 @@ pub record ByRows (g : Given) (file : List ℕ) (pc stack : ℕ) (placed old : L
   pub stored : new ≡ chain_stored (walk_by (by_rows g) g.machine file pc stack placed (length old)) old
   pub number : T (not_readers a.number)
 
-abbrev pub WalksBack : (format : ℕ) (g : Given) (o : Outcome) (file : List ℕ) (pc stack : ℕ) (placed old : List ℕ) (a : Answer) (new : List ℕ) → Type 0
+-- The walk is that by the rows, where each function that the walk by the rows visits is placed so: those of its
+-- frames and, where it is refused at a frame, that of this one. And it is where it was answered, by an ending that is
+-- not 0, and the function of each frame that it listed is placed so. Nothing is asked of the other functions, whether
+-- they relax or fail the row check.
+pub record WalkedBack (g : Given) (file : List ℕ) (pc stack : ℕ) (placed old : List ℕ) (a : Answer) (new : List ℕ)
+    : Type 0 where
+  pub by_visited :
+    All (Placing g placed) (visited (by_rows g) g.machine file pc stack placed)
+      → ByRows g file pc stack placed old a new
+  pub by_listed :
+    0 < a.ending → ((i : ℕ) → i < a.frames → Placing g placed (field 2 new i 0))
+      → ByRows g file pc stack placed old a new
+
+-- where the list was accepted for DWARF output
+abbrev pub WalksBack : (format : ℕ) (g : Given) (o : Outcome) (file : List ℕ) (pc stack : ℕ) (placed old : List ℕ)
+    (a : Answer) (new : List ℕ) → Type 0
 WalksBack format g o file pc stack placed old a new =
-    (c : Counts) → T (dwarf_output format) → o ≡ Ok (Some c)
-    → ((k : ℕ) → k < count 2 placed → Placing g placed k) → ByRows g file pc stack placed old a new
+    (c : Counts) → T (dwarf_output format) → o ≡ Ok (Some c) → WalkedBack g file pc stack placed old a new
