@@ -343,7 +343,8 @@ def table():
 def says(path):
     """What a file's first comment says of it."""
     first = next((line for line in read(path) if line.startswith('-- ')), '-- ')
-    return re.split(r'[.:(] ?', first[3:])[0].strip()
+    text = re.split(r'[.:(] ?', first[3:])[0].strip()
+    return text[:1].lower() + text[1:] if text[1:2].islower() or text[1:2] == ' ' else text
 
 
 class Counted:
@@ -368,7 +369,7 @@ def written(counted, listed):
     for path, i in listed.items():
         cells = text[i].strip().strip('|').split('|')
         text[i] = counted[path].row(cells[-1].strip()) if path in counted else None
-    for path in sorted(set(counted) - set(listed)):
+    for path in sorted(path for path in set(counted) - set(listed) if '/proofs/' not in path):
         crate = path.split('/specs/')[0] + '/'
         behind = max([i for p, i in listed.items() if p.startswith(crate)] or listed.values())
         text[behind] = '\n'.join(filter(None, (text[behind], counted[path].row(says(path)))))
