@@ -10,6 +10,9 @@
 use format::{CfaRule, Counts, Question, Refusal, Rule, Rules};
 use std::io;
 use unwind::Format;
+use walk::Memory;
+use x64_back::undo::{self, Registers};
+use x64_reader::X64Reading;
 
 // ---- the list
 
@@ -283,21 +286,32 @@ fn site(rt: &impl Print, k: u64, offset: u64) -> io::Result<()> {
     )
 }
 
-fn x64_record(rt: &impl Print) -> io::Result<()> {
+fn all_sites(rt: &impl Print, k: u64) -> io::Result<()> {
     let mut to = Lent::new();
-    let mut held = [0; 15];
-    let said = x64_back::seh_and_read(
-        &X64_FUNCTIONS,
-        &X64_CODES,
+    let mut held = [0; 3];
+    let said = sites_back::write_and_list_sites(
+        &machine(),
+        &FUNCTIONS,
+        &ROWS,
+        &LANDINGS,
+        &PAIRS,
         &mut to.places,
         &mut to.bytes,
         &mut to.relocations,
         &mut to.sites,
-        0,
+        k,
         &mut held,
     );
-    heading(rt, "x64_back::seh_and_read", said.outcome)?;
-    let read = said.answer;
+    heading(rt, "sites_back::write_and_list_sites", said.outcome)?;
+    match said.answer {
+        Ok(listed) => println!(rt; "    {} sites, shortest {}", listed.sites, listed.shortest)?,
+        Err(question) => println!(rt; "    {}", question.number())?,
+    }
+    println!(rt; "    {} {} {}", held[0], held[1], held[2])
+}
+
+// What was read of an x64 record, and the codes that were stored.
+fn codes(rt: &impl Print, read: X64Reading, held: &[u64; 15]) -> io::Result<()> {
     println!(
         rt;
         "    {}: end {}, frame {}, register {}, offset {}, {} codes",
@@ -322,6 +336,60 @@ fn x64_record(rt: &impl Print) -> io::Result<()> {
     Ok(())
 }
 
+fn x64_record(rt: &impl Print) -> io::Result<()> {
+    let mut to = Lent::new();
+    let mut held = [0; 15];
+    let said = x64_back::seh_and_read(
+        &X64_FUNCTIONS,
+        &X64_CODES,
+        &mut to.places,
+        &mut to.bytes,
+        &mut to.relocations,
+        &mut to.sites,
+        0,
+        &mut held,
+    );
+    heading(rt, "x64_back::seh_and_read", said.outcome)?;
+    codes(rt, said.answer, &held)
+}
+
+// `sample` alone, from its rows: 01 05 02 00, 05 32 and 01 30. Undone on a thread that stands behind its prologue, rbx (3) is the word
+// that was pushed, and rsp (4) stands at the return address, 40 above where it stood.
+fn x64_rows(rt: &impl Print) -> io::Result<()> {
+    let mut to = Lent::new();
+    let mut held = [0; 15];
+    let said = x64_back::table_and_read(
+        &machine(),
+        &FUNCTIONS[36..],
+        &ROWS,
+        &LANDINGS,
+        &PAIRS,
+        &mut to.places,
+        &mut to.bytes,
+        &mut to.relocations,
+        &mut to.sites,
+        0,
+        &mut held,
+    );
+    heading(rt, "x64_back::table_and_read", said.outcome)?;
+    codes(rt, said.answer, &held)?;
+    let file = recorded();
+    let memory = Memory {
+        address: STACK,
+        bytes: &file[..80],
+    };
+    let mut integers = [0; undo::INTEGERS];
+    integers[4] = STACK;
+    let stopped = Registers {
+        integers,
+        vectors: [0; undo::VECTOR_HALVES],
+    };
+    match undo::undo_record(&to.sites, 0, &memory, stopped) {
+        Ok(before) => println!(rt; "x64_back::undo_record: rbx {}, rsp {}", before.integers[3], before.integers[4]),
+        Err(question) => println!(rt; "x64_back::undo_record: {}", question.number()),
+    }
+}
+
 fn main(rt: HostRuntime) -> io::Result<()> {
     read_back(&rt, false, 1, 6, 12)?;
     read_back(&rt, true, 2, 3, 20)?;
@@ -330,5 +398,7 @@ fn main(rt: HostRuntime) -> io::Result<()> {
     walked(&rt)?;
     site(&rt, 1, 14)?;
     site(&rt, 1, 17)?;
-    x64_record(&rt)
+    all_sites(&rt, 1)?;
+    x64_record(&rt)?;
+    x64_rows(&rt)
 }
