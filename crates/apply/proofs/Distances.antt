@@ -53,7 +53,7 @@ module _ (w : Width) (bs : List ℕ) (p v : ℕ) (h : p + bytes_of w ≤ length 
   upper_kept =
       ap (λ (t : ℕ). t / 2 ^ bits_of w) whole ∙ mul-add-div_right (pow_pos (bits_of w)) kept v ∙ ap (λ (t : ℕ). kept + t) (div-eq_of_lt l) ∙ add-zero kept
 
-  still : number_at (in_field w bs p v) p (bytes_of w) < 256 ^ bytes_of w
+  pub still : number_at (in_field w bs p v) p (bytes_of w) < 256 ^ bytes_of w
   still = subst (λ (t : ℕ). t < 256 ^ bytes_of w) (sym whole) (within w (number_at bs p (bytes_of w)) v b l)
 
 pub in_length : (w : Width) (bs : List ℕ) (p v : ℕ) → length (in_field w bs p v) ≡ length bs

@@ -1,18 +1,19 @@
--- The whole: each answer of the entry, and the front of the buffer changed.
-use Rattle.std.proofs.Common.{◌≡◌, ℕ, ◌<◌, ◌≤◌, Bool, true, false, not, List, [], ◌∷◌, ◌++◌, length, take, drop, ℤ, sym, refl, ◌∙◌, arith, le-ltb, lt-ltb}
+-- The whole: each answer of the entry, and the front of the buffer changed; and what an answer of 0 says.
+use Rattle.std.proofs.Common.{◌≡◌, ℕ, suc, ◌<◌, ◌≤◌, T, Bool, true, false, not, ltb, List, [], ◌∷◌, ◌++◌, length, take, drop, ℤ, sym, refl, ap, ◌∙◌, arith, le-ltb, lt-ltb}
 use mathlib.Core.Option.{Option, none, some}
-use borrow.Author.Tests.{not-true, not-false}
-use Rattle.format.specs.Prelude.{pick}
+use borrow.Author.Tests.{not-true, not-false, ltb-false}
+use Rattle.format.specs.Prelude.{pick, Result, good, bad}
 use Rattle.format.specs.Put.{put}
 use Rattle.format.specs.Lists.{Relocation, relocations_of}
 use Rattle.format.proofs.PutLaws.{length-put}
 use Rattle.format.proofs.Copied.{put_front}
+use Rattle.format.proofs.Choice.{is_yes_lem}
 use Rattle.apply.specs.declared.Width.{Width}
 use Rattle.apply.specs.declared.Kind.{Kind}
 use Rattle.apply.specs.declared.Kind.TheVariants.{Data, Address, SumPlus, SumMinus, Image, Set, Sub, Unknown}
 use Rattle.apply.specs.Kinds.{kind_of}
 use Rattle.apply.specs.Fields.{set_in, sub_in, whole_in}
-use Rattle.apply.specs.Values.{Layout, layout_of, sum_of, value_as, store_as, store_of}
+use Rattle.apply.specs.Values.{Layout, layout_of, symbols_of, sum_of, value_as, store_as, store_of}
 use Rattle.apply.specs.Apply.{front, everywhere, sound, near, stores, apply, number_in, buffer_in, Applies}
 use Rattle.std.proofs.lemmas.List.{take_at, drop_at}
 use Rattle.apply.proofs.Distances.{in_length}
@@ -99,3 +100,35 @@ module _ (bytes relocations addresses : List ℕ) (section image : ℕ) (out : L
           let x : everywhere (sound l (length bytes)) none rs ≡ true = sym e ∙ not-false a t in
           let y : everywhere (near l.symbols) none rs ≡ true = sym f ∙ not-false b u in
           simp (le-ltb (length out) (length bytes) h, x, y) (record { number = refl; stored = g })
+
+-- ---- a call that answers 0
+
+yes : (b : Bool) (n : ℕ) (x : Result (List ℕ)) → number_in (pick b (bad (suc n)) x) ≡ 0 → (b ≡ false) × (pick b (bad (suc n)) x ≡ x)
+unfolding pick number_in
+yes true n x e = absurd (omega arith)
+yes false n x e = (refl, refl)
+
+-- there was room, every relocation was accepted, and the result is that of the stores
+pub record InPlace (bytes relocations addresses : List ℕ) (section image room : ℕ) : Type 0 where
+  pub fits : length bytes ≤ room
+  pub sound_ones : T (everywhere (sound (layout_of addresses section image) (length bytes)) none (relocations_of relocations))
+  pub near_ones : T (everywhere (near (symbols_of addresses)) none (relocations_of relocations))
+  pub is : apply bytes relocations addresses section image room ≡ good (stores (layout_of addresses section image) bytes (relocations_of relocations))
+
+pub in_place : (bytes relocations addresses : List ℕ) (section image room : ℕ) → number_in (apply bytes relocations addresses section image room) ≡ 0
+    → InPlace bytes relocations addresses section image room
+unfolding apply
+in_place bytes relocations addresses section image room e =
+    let l : Layout = layout_of addresses section image in
+    let rs : List Relocation = relocations_of relocations in
+    let sound_all : Bool = everywhere (sound l (length bytes)) none rs in
+    let near_all : Bool = everywhere (near l.symbols) none rs in
+    let a = yes (ltb room (length bytes)) 51 _ e in
+    let b = yes (not sound_all) 78 _ (ap number_in (sym a.1) ∙ e) in
+    let c = yes (not near_all) 79 _ (ap number_in (sym b.1) ∙ (ap number_in (sym a.1) ∙ e)) in
+    record {
+      fits = ltb-false room (length bytes) a.0;
+      sound_ones = is_yes_lem (not-false sound_all b.0);
+      near_ones = is_yes_lem (not-false near_all c.0);
+      is = a.1 ∙ (b.1 ∙ c.1);
+    }

@@ -9,4 +9,5 @@ pub mod Loops
 pub mod Distances
 pub mod Outside
 pub mod Entry
+pub mod Pairs
 pub mod Vectors

@@ -64,7 +64,7 @@ as_off (Sub w) l bs r behind q t o =
     sub_off w bs r.place q (sum_of l.symbols r) (subst (Off q r.place) (step_size_2 w r.bytes t) o)
 as_off Unknown l bs r behind q t o = refl
 
-store_off : (l : Layout) (bs : List ℕ) (r : Relocation) (behind : Option Relocation) (q : ℕ) → Misses q r → get_or (store_of l bs r behind) q 0 ≡ get_or bs q 0
+pub store_off : (l : Layout) (bs : List ℕ) (r : Relocation) (behind : Option Relocation) (q : ℕ) → Misses q r → get_or (store_of l bs r behind) q 0 ≡ get_or bs q 0
 unfolding store_of
 store_off l bs r behind q m = as_off (kind_of r.kind) l bs r behind q m.sized m.off
 

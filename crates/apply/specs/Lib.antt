@@ -3,4 +3,5 @@ pub mod Kinds
 pub mod Fields
 pub mod Values
 pub mod Apply
+pub mod Pairs
 pub mod Standing

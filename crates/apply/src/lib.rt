@@ -11,6 +11,7 @@ ghost use Rattle.apply.specs.Kinds.{kind_of, bits_of, bytes_of, size_ok};
 ghost use Rattle.apply.specs.Fields.{up_to, signed32, number_at};
 ghost use Rattle.apply.specs.Values.{symbols_of, address_of, sum_of, apart, value_as, distance_of, store_of};
 ghost use Rattle.apply.specs.Apply.{partners, paired, value_ok, near_as, sound, near, everywhere, stores, apply, Applies};
+ghost use Rattle.apply.specs.Pairs.{PairsHold};
 ghost use Rattle.apply.specs.Standing.{meant, placed, beside, before_at, behind_at, SumRange, true_value, fitted, patched, answer_of};
 
 use format::Question;
@@ -421,9 +422,12 @@ impl Placement<'_> {
 
     // ---- the whole
 
-    // A section's bytes with its relocations applied, at the front of `out`. Where a question is answered by no, `out` is as it was.
-    fn apply(&self, bytes: &[u8], relocs: &[u64], out: &mut [u8]) -> Result<(), Question>
-        ensures { Applies (apply bytes.now relocs.now self.now.addresses.now self.now.section self.now.image (length out.old)) (answer_of (numbered result)) out.old out.new }
+    /// A section's bytes with its relocations applied, at the front of `out`. Where a question is answered by no, `out` is as it was. Else the field
+    /// of each Set and Sub pair that no other relocation shares, of 6, 8, 16 or 32 bits, holds the distance of the pair's labels, although the sums
+    /// and what is stored between wrap; and the bits above a 6-bit field are as they were.
+    pub fn apply(&self, bytes: &[u8], relocs: &[u64], out: &mut [u8]) -> Result<(), Question>
+        ensures applied { Applies (apply bytes.now relocs.now self.now.addresses.now self.now.section self.now.image (length out.old)) (answer_of (numbered result)) out.old out.new }
+        ensures pairs { answer_of (numbered result) ≡ 0 → PairsHold (symbols_of self.now.addresses.now) (relocations_of relocs.now) bytes.now out.new }
     {
         let n = bytes.len();
         if out.len() < n {

@@ -10,4 +10,5 @@ pub mod SectionPlaced
 pub mod Alike
 pub mod SectionRead
 pub mod MovedBack
+pub mod Together
 pub mod Examples
