@@ -1,6 +1,7 @@
 // The rules along a record.
 ghost use Rattle.std.specs.Prelude.{length};
 ghost use Rattle.listing.specs.Lines.{along, Lists};
+ghost use Rattle.listing.specs.AtOffset.{Says};
 
 use listing::Listed;
 use reads::Located;
@@ -13,7 +14,8 @@ pub extern "C" fn unwind_rules_along(
     q: u16,
     lines: &mut [u64],
 ) -> Listed
-    ensures { Lists q (along section.now located (length lines.old)) result lines.old lines.new }
+    ensures lists { Lists q (along section.now located (length lines.old)) result lines.old lines.new }
+    ensures says { Says section.now located q result lines.new }
 {
     listing::unwind_rules_along(section, located, q, lines)
 }

@@ -8,7 +8,7 @@ use mathlib.Core.Bool.{Bool, true, false}
 use mathlib.Core.Option.{none, some}
 use mathlib.Core.List.{List, [], ◌∷◌}
 use lib.ListN.{length}
-use lib.Dec.{leb, eqb}
+use lib.Dec.{leb, eqb, leb→le}
 use Rattle.format.specs.Prelude.{pick, Read, Result, good, bad, onward}
 use Rattle.format.specs.declared.Rule.{Rule}
 use Rattle.format.specs.declared.Operation.{Operation}
@@ -169,7 +169,29 @@ module _ (word p : ℕ) (initial : ℕ → Rule) (k : ℕ → State → Lines) (
       (λ op r. perform true p initial op at s λ m t. run_f true word p initial f m t r)
       (op_headed f s (λ t r. headed f t r))
 
+module _ (word : ℕ) (initial : ℕ → Rule) (k : ℕ → State → Lines) (begins : (at : ℕ) (s : State) → start (k at s) ≡ at) where
+  first_op_starts : (f at : ℕ) (s : State) → ((t : State) (r : List ℕ) → start (lines_f true word initial k f at t r) ≡ at) → (op : Operation) (r : List ℕ)
+      → start (doing true initial op at s λ m t. lines_f true word initial k f m t r) ≡ at
+  unfolding doing stepping pick start
+  first_op_starts f at s h Nop r = h s r
+  first_op_starts f at s h (Step n) r = refl
+  first_op_starts f at s h (Does row) r = act_starts word initial at (act true initial row s) (λ t. lines_f true word initial k f at t r) (λ t. h t r)
+
+  header_starts : (f at : ℕ) (s : State) (bs : List ℕ) → start (lines_f true word initial k f at s bs) ≡ at
+  unfolding lines_f
+  header_starts zero at s bs = begins at s
+  header_starts (suc f) at s [] = begins at s
+  header_starts (suc f) at s (b ∷ bs) =
+      read_starts word initial at (read_operation word (b ∷ bs)) (λ op r. doing true initial op at s λ m t. lines_f true word initial k f m t r)
+      (first_op_starts f at s (λ t r. header_starts f at t r))
+
 -- ---- the whole
+
+-- the first line starts at 0
+pub lines_start : (word : ℕ) (h r : List ℕ) → start (lines_of word h r) ≡ 0
+unfolding lines_of record_lines
+lines_start word h r =
+    header_starts word blank.current.rules (record_lines word r) (λ at s. starts word s.current.rules (length r) at s r) (length h) 0 blank h
 
 -- at every offset the lines hold what the reader's run gives there
 pub run_holds : (word p : ℕ) (h r : List ℕ) → p ≤ highest
@@ -183,6 +205,16 @@ right : {A : Type 0} (b : Bool) (x : Result A) (n : ℕ) (a : A) → pick b x (b
 unfolding pick
 right true x n a e = (refl, e)
 right false x n a e = let z : ◌≡◌ {A = ℕ} 0 1 = cc in absurd (omega arith)
+
+-- the lines of an accepted listing, and that the room is enough
+pub along_is : (s : List ℕ) (l : Located) (room : ℕ) (ls : Lines) → along s l room ≡ good ls → (lines_at s l ≡ ls) × (7 * (l.record_end - l.record + 1) ≤ room)
+unfolding along
+along_is s l room ls e =
+    let a = right (eqb l.number 0) _ l.number ls e in
+    let b = right (in_section s (reader_places l)) _ 64 ls a.1 in
+    let c = right (leb (7 * (l.record_end - l.record + 1)) room) (good (lines_at s l)) 54 ls b.1 in
+    let d : lines_at s l ≡ ls = cc in
+    (d, leb→le (7 * (l.record_end - l.record + 1)) room (rw c.0 tt))
 
 -- what is listed is what unwind_rules_at answers, at every offset below the function's length
 pub along_reads : (s : List ℕ) (l : Located) (room : ℕ) (ls : Lines) (q p : ℕ) → along s l room ≡ good ls → p < l.length → p ≤ highest

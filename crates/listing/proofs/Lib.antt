@@ -4,4 +4,5 @@ pub mod Doing
 pub mod Both
 pub mod Asking
 pub mod AtOffset
+pub mod Saying
 pub mod Examples

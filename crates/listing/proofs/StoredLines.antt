@@ -73,7 +73,7 @@ covered xs p (u ∷ us) bs h = covered (set xs p u) (p + 1) us bs (omega arith) 
 
 -- ---- the lines that are left
 
-numbers_length : (q : ℕ) (ls : Lines) → length (numbers_of q ls) ≡ 7 * count_of ls
+pub numbers_length : (q : ℕ) (ls : Lines) → length (numbers_of q ls) ≡ 7 * count_of ls
 unfolding numbers_of count_of
 numbers_length q (line at s rest) =
     omega (arith, length-append (line_numbers at (rules_for q s.current)) (numbers_of q rest), line_length at (rules_for q s.current), numbers_length q rest)

@@ -1,2 +1,3 @@
--- What the listing of a record's rules answers.
+-- What the listing of a record's rules answers, and what its lines say.
 pub mod Lines
+pub mod AtOffset

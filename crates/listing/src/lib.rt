@@ -3,6 +3,7 @@
 
 ghost use Rattle.std.specs.Prelude.{◌≡◌, length};
 ghost use Rattle.listing.specs.Lines.{along, Lists};
+ghost use Rattle.listing.specs.AtOffset.{Says};
 
 use format::Question;
 use reader::location;
@@ -42,7 +43,8 @@ pub extern "C" fn unwind_rules_along(
     q: u16,
     lines: &mut [u64],
 ) -> Listed
-    ensures { Lists q (along section.now located (length lines.old)) result lines.old lines.new }
+    ensures lists { Lists q (along section.now located (length lines.old)) result lines.old lines.new }
+    ensures says { Says section.now located q result lines.new }
 {
     if located.number != 0 {
         return unlisted(located.number);
