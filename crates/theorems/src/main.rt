@@ -54,6 +54,11 @@ const SAMPLE: u64 = 0x1200;
 // Where each function lies, and its length.
 const PLACED: [u64; 6] = [RESET, 16, CONTROL, 40, SAMPLE, 32];
 
+// Symbols and their addresses: the personality reference (0), the table of call sites (1) and the functions; and where .eh_frame stands.
+const ADDRESSES: [u64; 10] = [0, 0x3000, 1, 0x3800, 16, RESET, 17, CONTROL, 18, SAMPLE];
+
+const SECTION: u64 = 0x4000;
+
 // A function of direct x64 codes: push rbp; sub rsp, 32; lea rbp, [rsp + 16]. Its info is 01 0a 03 15, 0a
 // 03, 05 32, 01 50 and two zeros, its row of .pdata three addresses (Microsoft, x64 exception handling).
 const X64_FUNCTIONS: [u64; 5] = [16, 40, 10, 0, 3];
@@ -176,6 +181,34 @@ fn read_back(rt: &impl Print, debug: bool, k: u64, q: u16, p: u64) -> io::Result
     );
     heading(rt, "unwind::write_and_read", said.outcome)?;
     rules(rt, said.answer)
+}
+
+// In place the second record's function field, at 84 of the section, is 0x1100 - 0x4054, and is read as before.
+fn in_place(rt: &impl Print, k: u64, q: u16, p: u64) -> io::Result<()> {
+    let mut to = Lent::new();
+    let mut out = [0; 256];
+    let said = apply_back::write_apply_and_read(
+        &machine(),
+        &FUNCTIONS,
+        &ROWS,
+        &LANDINGS,
+        &PAIRS,
+        &mut to.places,
+        &mut to.bytes,
+        &mut to.relocations,
+        &mut to.sites,
+        &ADDRESSES,
+        SECTION,
+        0,
+        &mut out,
+        k,
+        q,
+        p,
+    );
+    heading(rt, "apply_back::write_apply_and_read", said.outcome)?;
+    let field = i32::from_le_bytes([out[84], out[85], out[86], out[87]]);
+    println!(rt; "    {}: {field} at 84", said.answer.number)?;
+    rules(rt, said.answer.reading)
 }
 
 fn both_sections(rt: &impl Print, k: u64, q: u16, p: u64) -> io::Result<()> {
@@ -393,6 +426,7 @@ fn x64_rows(rt: &impl Print) -> io::Result<()> {
 fn main(rt: HostRuntime) -> io::Result<()> {
     read_back(&rt, false, 1, 6, 12)?;
     read_back(&rt, true, 2, 3, 20)?;
+    in_place(&rt, 1, 6, 12)?;
     both_sections(&rt, 0, 16, 8)?;
     checked(&rt)?;
     walked(&rt)?;
