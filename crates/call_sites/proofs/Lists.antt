@@ -8,7 +8,7 @@ use mathlib.Core.List.{List}
 use lib.ListN.{length, drop}
 use Rattle.std.specs.Prelude.{Ok, Err}
 use Rattle.std.specs.Prelude as code
-use Rattle.format.specs.Prelude.{pick, Result, good, bad, onward, or_else}
+use Rattle.format.specs.Prelude.{Result, good, bad, onward, or_else}
 use Rattle.format.specs.Lists.{Landing}
 use Rattle.format.specs.Shortest.{every_short}
 use Rattle.format.specs.CallSiteReader.{read_sites, read_table, sites_at, sites_short}

@@ -18,7 +18,7 @@ use Rattle.operations.specs.declared.fields.Position.{Position}
 use Rattle.call_sites.specs.declared.Entry.{Entry}
 use Rattle.format.specs.Shortest.{every_short}
 use Rattle.call_sites.specs.Reads.{landing_of, short_from, marked_start, EntryThere, entry_of, first_covering, with_mark}
-use Rattle.call_sites.specs.Listed.{site_stride, landing_numbers, all_numbers, counted_of, stored_of, HasRoom}
+use Rattle.call_sites.specs.Listed.{landing_numbers, all_numbers, counted_of, stored_of, HasRoom}
 use Rattle.call_sites.specs.declared.Entries.{Entries}
 use Rattle.format.specs.Put.{put}
 use Rattle.format.proofs.PutLaws.{put-append, length-put}

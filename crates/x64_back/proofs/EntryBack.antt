@@ -6,7 +6,6 @@ use mathlib.Core.Bool.{Bool, true, false, not, ◌||◌}
 use mathlib.Core.Option.{Option, none, some}
 use mathlib.Core.List.{List, [], ◌∷◌}
 use lib.Dec.{T, eqb, eqb→eq}
-use lib.IntN.{ℤ}
 use lib.ListN.{length, get_or, set, take, drop, length-set}
 use Rattle.std.proofs.lemmas.List.{get_or-take, get_or_past, length-take}
 use lib.Seq.{drop-cons, get_or-drop, get_or-set_same, get_or-set_other}
@@ -27,7 +26,7 @@ use Rattle.walk.specs.Walk.{Memory, load}
 use Rattle.x64_back.specs.declared.undo.Registers.{Registers}
 use Rattle.x64_back.specs.Given.{or_frame_of, frame_of}
 use Rattle.x64_back.specs.Undo.{State, rsp, stack_pointer, set_at, loaded, with_register, with_vector, does, prologue_from, below, base_in, done, undoes, undo_from, undone, names, Unnamed, KeptBy, FrameKept, FitsCode, AddressesFit}
-use Rattle.x64_back.specs.Thread.{registers, pointer_in, with_integer, with_halves, sum64, difference, undo_code, undo_codes, base_by, undo_info, undo_at, Within, StoresIn, AllStoredIn, Entered, EntryGiven, EntryBack}
+use Rattle.x64_back.specs.Thread.{pointer_in, with_integer, with_halves, sum64, difference, undo_save, undo_code, undo_codes, base_by, undo_info, undo_at, Within, StoresIn, AllStoredIn, Entered, EntryGiven, EntryBack}
 use Rattle.x64_back.proofs.EntryPointer.{goes_below, frame_ahead, frame_back, pointer_back}
 use Rattle.x64_back.proofs.FromHeader.{FromHeader, Bytes, all_from}
 
@@ -63,9 +62,9 @@ difference_is a b h = if-le b a (some (a - b)) none h
 
 -- ---- registers
 
-record Same (r : Registers) (u : State) : Type 0 where
-  many : length r.integers ≡ 16
-  are : (k : ℕ) → k < 16 → get_or r.integers k 0 ≡ u.registers k
+pub record Same (r : Registers) (u : State) : Type 0 where
+  pub many : length r.integers ≡ 16
+  pub are : (k : ℕ) → k < 16 → get_or r.integers k 0 ≡ u.registers k
 
 module _ {r : Registers} {u : State} (s : Same r u) where
   same_with : (reg v : ℕ) → reg < 16 → Same (with_integer r reg v) (with_register u reg v)
@@ -98,7 +97,7 @@ module _ (m : Memory) (base frame : ℕ) (r : Registers) (u : State) (s : Same r
   pointer_is = s.are 4 (omega arith)
 
   code_undone : (c : Seh) → FromHeader frame c → Ready m base u c → Undone (undo_code m base c r) (undoes base c u)
-  unfolding undo_code undoes after with_halves with_vector
+  unfolding undo_code undo_save undoes after with_halves with_vector
   code_undone (Push reg) h k =
       let sp : ℕ = stack_pointer u in
       let v : ℕ = loaded u.memory sp 8 in
@@ -217,7 +216,7 @@ module _ (base : ℕ) where
   module _ (frame : ℕ) where
     one_framed : (c : Seh) (cs : List (ℕ × Seh)) (s : State) → (is_frame c || has_frame cs) ≡ true → FromHeader frame c → T (not (names c rsp)) → KeptBy c cs
         → ((u : State) → has_frame cs ≡ true
-            → (prologue_from base cs u).registers (frame_register frame) ≡ base_in cs (stack_pointer u) + frame_offset frame)
+        → (prologue_from base cs u).registers (frame_register frame) ≡ base_in cs (stack_pointer u) + frame_offset frame)
         → (prologue_from base cs (does base c s)).registers (frame_register frame)
         ≡ pick (is_frame c) (stack_pointer s) (base_in cs (below (stack_pointer s) c)) + frame_offset frame
     unfolding is_frame pick names
@@ -283,7 +282,7 @@ module _ (frame : ℕ) (cs : List (ℕ × Seh)) (from : Each (λ c. FromHeader f
   prologue_undone =
       all_undone m base frame h.memory_fits cs s r from h.pointer_unnamed h.frame_kept h.addresses_fit h.pointer_fits h.holds_stores same h.bytes
 
-  pub given : {answer : code.Result Registers ℕ} → answer ≡ result_of (or_else (after (base_by (has_frame cs) (frame_register frame) (frame_offset frame) r) λ b. undo_codes m b cs r) 74)
+  given : {answer : code.Result Registers ℕ} → answer ≡ result_of (or_else (after (base_by (has_frame cs) (frame_register frame) (frame_offset frame) r) λ b. undo_codes m b cs r) 74)
       → EntryGiven cs s answer
   unfolding after or_else base done undone
   given e =
@@ -322,12 +321,12 @@ slots_bytes bs h i =
     either (suc i) n (λ l. rw (get_or-take n xs i 0 l, get_or-drop 4 bs i 0) (h (4 + i)))
     (λ l. let z = get_or_past (take n xs) i 0 (omega (arith, length-take n xs)) in omega arith)
 
-pub entry_back : (info : List ℕ) (place : ℕ) (m : Memory) (r : Registers) → Bytes info → length r.integers ≡ 16 → {answer : code.Result Registers ℕ}
+pub entry_back : (info : List ℕ) (place : ℕ) (m : Memory) (r : Registers) → Bytes info → {answer : code.Result Registers ℕ}
     → answer ≡ result_of (undo_at info place m r) → EntryBack info place m r answer
 unfolding undo_at undo_info onward
-entry_back info place m r bytes many e i read s h =
+entry_back info place m r bytes e i read s h =
     let bs : List ℕ = drop place info in
     let x = said bs i read in
     let inside : Bytes bs = λ j. rw (get_or-drop place info j 0) (bytes (place + j)) in
     let from = all_from (get_or bs 3 0) (slot_bytes_in bs) i.codes (slots_bytes bs inside) x.codes in
-    given (get_or bs 3 0) i.codes from s m r h (record { many = many; are = h.integers }) (e ∙ rw (read, x.register, x.offset))
+    given (get_or bs 3 0) i.codes from s m r h (record { many = h.many; are = h.integers }) (e ∙ rw (read, x.register, x.offset))

@@ -4,6 +4,8 @@ pub mod InfoBack
 pub mod SehBack
 pub mod EntryPointer
 pub mod FromHeader
+pub mod Exits
 pub mod Undoing
+pub mod Records
 pub mod EntryBack
 pub mod Examples

@@ -12,7 +12,7 @@ use Rattle.format.specs.declared.Machine.{Machine}
 use Rattle.format.specs.declared.Seh.{Seh}
 use Rattle.format.specs.Machine.{machine_of}
 use Rattle.format.specs.Constants.{coff}
-use Rattle.format.specs.Lists.{Function, Prologue, prologue_stride, code_stride, function_stride, count, prologue_at, prologues_of}
+use Rattle.format.specs.Lists.{Function, Prologue, prologue_stride, code_stride, count, prologue_at, prologues_of}
 use Rattle.format.specs.Writer.{Written, joined}
 use Rattle.format.specs.X64.{codes_of, prologue_of, prologue_no, info_bytes, markers_from, x64}
 use Rattle.format.specs.X64Reader.{read_info, read_x64, info_numbers, codes_stored}

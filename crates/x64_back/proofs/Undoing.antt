@@ -31,8 +31,9 @@ module _ {m : Memory} {base : ℕ} {r : Registers} where
   unfolding undo_codes after
   one_undone {c = c} {before = before} e cs h = record { undone = rw h.undone (value_is (undo_code m base c before) (sym e)) }
 
-  -- ---- where one cannot be undone, none of those in front of it are
+-- ---- where one cannot be undone, none of those in front of it are
 
+module _ (m : Memory) (base : ℕ) (r : Registers) where
   abbrev Stopped : Option (List (ℕ × Seh)) → Type 0
   Stopped none = 0 ≤ base
   Stopped (some cs) = undo_codes m base cs r ≡ none
@@ -56,6 +57,12 @@ module _ {m : Memory} {base : ℕ} {r : Registers} where
   nothing none h = refl
   nothing (some cs) h = rw h
 
+  pub unread_stops : {P : List (ℕ × Seh) → Type 0} {frame : ℕ} {s : List ℕ} {p : Position} → Going P frame s p → p.at < length s
+      → read_code frame (drop p.at s) ≡ none → None ≡ option_of (after (read_codes frame s) λ cs. undo_codes m base cs r)
+  unfolding after
+  unread_stops g h e = rw (unread g h e)
+
+module _ {m : Memory} {base : ℕ} {r : Registers} where
   pub stopped : {frame : ℕ} {s : List ℕ} {p q : Position} {offset : ℕ} {c : Seh} {before : Registers} → Going (Undoing m base r before) frame s p
       → p.at < length s → CodeThere frame s p offset c q → None ≡ option_of (undo_code m base c before)
       → None ≡ option_of (after (read_codes frame s) λ cs. undo_codes m base cs r)
@@ -63,12 +70,7 @@ module _ {m : Memory} {base : ℕ} {r : Registers} where
   stopped {frame = frame} {s = s} {q = q} {c = c} {before = before} g h t e =
       let o : undo_code m base c before ≡ none = none_is (undo_code m base c before) (sym e) in
       let next : Going (λ cs. undo_codes m base cs r ≡ none) frame s q = turn g h t (λ cs w. rw w.undone o) in
-      nothing (read_codes frame s) (rw next.same at (stays_stopped next.fuel frame next.codes (drop q.at s) next.here))
-
-  pub unread_stops : {P : List (ℕ × Seh) → Type 0} {frame : ℕ} {s : List ℕ} {p : Position} → Going P frame s p → p.at < length s
-      → read_code frame (drop p.at s) ≡ none → None ≡ option_of (after (read_codes frame s) λ cs. undo_codes m base cs r)
-  unfolding after
-  unread_stops g h e = rw (unread g h e)
+      nothing m base r (read_codes frame s) (rw next.same at (stays_stopped m base r next.fuel frame next.codes (drop q.at s) next.here))
 
   pub all_undone : {frame : ℕ} {s : List ℕ} {p : Position} {before : Registers} → Going (Undoing m base r before) frame s p → length s ≤ p.at
       → Some before ≡ option_of (after (read_codes frame s) λ cs. undo_codes m base cs r)

@@ -7,7 +7,7 @@ use Rattle.format.specs.Prelude.{pick, after, Result, good, onward, or_else}
 use Rattle.format.specs.declared.Seh.{Seh}
 use Rattle.format.specs.declared.Seh.TheVariants.{Push, Alloc, Frame, Save}
 use Rattle.format.specs.X64.{size64}
-use Rattle.format.specs.X64Reader.{Info, has_frame, read_info}
+use Rattle.format.specs.X64Reader.{Info, has_frame, frame_register, frame_offset, read_codes, read_info}
 use Rattle.walk.specs.Walk.{Memory, load}
 use Rattle.x64_back.specs.declared.undo.Registers.{Registers}
 use Rattle.x64_back.specs.Undo.{State, rsp, stack_pointer, base_in, below, done, undone, Unnamed, FrameKept, AddressesFit}
@@ -35,15 +35,17 @@ sum64 a b = pick (ltb (a + b) (2 ^ 64)) (some (a + b)) none
 unfoldable pub difference : (a b : ℕ) → Option ℕ
 difference a b = pick (leb b a) (some (a - b)) none
 
+unfoldable pub undo_save : Memory → (reg : ℕ) (vector : Bool) → Registers → (at : ℕ) → Option Registers
+undo_save m reg false r at = after (load m at) λ v. some (with_integer r reg v)
+undo_save m reg true r at =
+    after (load m at) λ low. after (sum64 at 8) λ above. after (load m above) λ high. some (with_halves r reg low high)
+
 unfoldable pub undo_code : Memory → (base : ℕ) → Seh → Registers → Option Registers
 undo_code m base (Push reg) r =
     after (load m (pointer_in r)) λ v. after (sum64 (pointer_in r) 8) λ sp. some (with_integer (with_integer r reg v) rsp sp)
 undo_code m base (Alloc z) r = after (sum64 (pointer_in r) (size64 z)) λ sp. some (with_integer r rsp sp)
 undo_code m base (Frame reg z) r = after (difference (get_or r.integers reg 0) (size64 z)) λ sp. some (with_integer r rsp sp)
-undo_code m base (Save reg false z) r = after (sum64 base (size64 z)) λ at. after (load m at) λ v. some (with_integer r reg v)
-undo_code m base (Save reg true z) r =
-    after (sum64 base (size64 z)) λ at. after (load m at) λ low. after (sum64 at 8) λ above. after (load m above) λ high.
-    some (with_halves r reg low high)
+undo_code m base (Save reg vector z) r = after (sum64 base (size64 z)) (undo_save m reg vector r)
 
 -- ---- a record (Microsoft, "Unwind procedure")
 
@@ -55,6 +57,11 @@ undo_codes m base (c ∷ cs) r = after (undo_codes m base cs r) (undo_code m bas
 -- saves count from the frame register less its offset, without a frame code from the stack pointer
 unfoldable pub base_by : (framed : Bool) → (reg offset : ℕ) → Registers → Option ℕ
 base_by framed reg offset r = pick framed (difference (get_or r.integers reg 0) offset) (some (pointer_in r))
+
+-- by a record's slots, its frame byte, and whether a code sets the frame register
+unfoldable pub undo_slots : Memory → (framed : Bool) → (frame : ℕ) → List ℕ → Registers → Option Registers
+undo_slots m framed frame slots r =
+    after (base_by framed (frame_register frame) (frame_offset frame) r) λ base. after (read_codes frame slots) λ cs. undo_codes m base cs r
 
 unfoldable pub undo_info : Memory → Info → Registers → Option Registers
 undo_info m i r = after (base_by (has_frame i.codes) i.register i.offset r) λ base. undo_codes m base i.codes r
@@ -91,6 +98,7 @@ pub record Entered (cs : List (ℕ × Seh)) (s : State) (m : Memory) (r : Regist
   pub pointer_fits : stack_pointer s < 2 ^ 64
   pub memory_fits : m.address + length m.bytes ≤ 2 ^ 64
   pub holds_stores : AllStoredIn m (base_in cs (stack_pointer s)) (stack_pointer s) cs
+  pub many : length r.integers ≡ registers
   pub integers : (k : ℕ) → k < registers → get_or r.integers k 0 ≡ (done cs s).registers k
   pub bytes : (i : ℕ) → i < length m.bytes → get_or m.bytes i 0 ≡ (done cs s).memory (m.address + i)
 

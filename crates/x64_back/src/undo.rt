@@ -3,23 +3,24 @@
 
 ghost use Rattle.std.specs.Prelude.{◌≡◌, ◌<◌, get_or};
 ghost use Rattle.format.proofs.Asked.{option_of};
-ghost use Rattle.format.specs.Prelude.{after};
 ghost use Rattle.format.specs.Coded.{result_of, numbered};
 ghost use Rattle.format.specs.X64.{size64, register_in};
-ghost use Rattle.format.specs.X64Reader.{frame_register, frame_offset, read_codes};
+ghost use Rattle.format.specs.X64Reader.{frame_register, frame_offset};
 ghost use Rattle.walk.specs.Standing.{memory_of};
-ghost use Rattle.x64_back.specs.Thread.{registers, with_integer, with_halves, base_by, undo_code, undo_codes, undo_at, EntryBack};
+ghost use Rattle.x64_back.specs.Thread.{registers, with_integer, with_halves, base_by, undo_save, undo_code, undo_slots, undo_at, EntryBack};
 
 use format::{Question, Seh};
 use walk::Memory;
-use x64_reader::{Header, count, header_at, slots_in};
+use x64_reader::{count, header_at, slots_in};
 
 // How many integer registers there are, and how many halves of as many vector registers.
 pub const INTEGERS: usize = 16;
+
 pub const VECTOR_HALVES: usize = 32;
 
 // The stack pointer's number, and the bytes of a word.
 const RSP: u64 = 4;
+
 const WORD: u64 = 8;
 
 // A thread's registers by their numbers in codes: the integer ones, and the vector ones as two halves each, the lower first.
@@ -67,6 +68,20 @@ impl Registers {
         self.integers[register].checked_sub(u64::from(16 * (frame / 16)))
     }
 
+    // The register that was saved at an address: a word, of a vector register two.
+    fn undo_save(self, reg: u64, vector: bool, at: u64, memory: &Memory) -> Option<Registers>
+        requires { reg < registers }
+        ensures { result ≡ option_of (undo_save (memory_of memory.now) reg vector self at) }
+    {
+        let low = memory.load(at)?;
+        if !vector {
+            return Some(self.with_integer(reg, low));
+        }
+        let above = at.checked_add(WORD)?;
+        let high = memory.load(above)?;
+        Some(self.with_halves(reg, low, high))
+    }
+
     // The registers before a code's instruction.
     fn undo(self, code: Seh, base: u64, memory: &Memory) -> Option<Registers>
         requires { register_in code < registers }
@@ -87,28 +102,20 @@ impl Registers {
                 let before = self.integers[reg as usize].checked_sub(size(z))?;
                 Some(self.with_integer(RSP, before))
             }
-            Seh::Save(reg, false, z) => {
+            Seh::Save(reg, vector, z) => {
                 let at = base.checked_add(size(z))?;
-                let value = memory.load(at)?;
-                Some(self.with_integer(reg, value))
-            }
-            Seh::Save(reg, true, z) => {
-                let at = base.checked_add(size(z))?;
-                let low = memory.load(at)?;
-                let above = at.checked_add(WORD)?;
-                let high = memory.load(above)?;
-                Some(self.with_halves(reg, low, high))
+                self.undo_save(reg, vector, at, memory)
             }
         }
     }
 
     // The registers before a record's codes, which stand in reverse.
-    fn undo_all(self, header: Header, framed: bool, memory: &Memory) -> Option<Registers>
-        ensures { result ≡ option_of (after (base_by framed (frame_register header.entry.frame) (frame_offset header.entry.frame) self) λ base. after (read_codes header.entry.frame header.entry.slots.now) λ cs. undo_codes (memory_of memory.now) base cs self) }
+    fn undo_all(self, slots: &[u8], frame: u8, framed: bool, memory: &Memory) -> Option<Registers>
+        ensures { result ≡ option_of (undo_slots (memory_of memory.now) framed frame slots.now self) }
     {
-        let base = self.base(framed, header.frame)?;
+        let base = self.base(framed, frame)?;
         let mut before = self;
-        for code in slots_in(header.slots, header.frame) {
+        for code in slots_in(slots, frame) {
             before = before.undo(code?.says, base, memory)?;
         }
         Some(before)
@@ -132,7 +139,7 @@ pub fn undo_record(
     let Some((_, framed)) = count(header.slots, header.frame) else {
         return Err(Question::X64Codes);
     };
-    let Some(before) = registers.undo_all(header, framed, memory) else {
+    let Some(before) = registers.undo_all(header.slots, header.frame, framed, memory) else {
         return Err(Question::Stack);
     };
     Ok(before)

@@ -44,7 +44,7 @@ some_read none e = let z : ◌≡◌ {A = ℕ} 0 1 = cc in absurd (omega arith)
 some_read (some cs) e = record { held = record { codes = cs; are = refl; many = (both_are e).0 }; frames = (both_are e).1 }
 
 module _ (s : List ℕ) (p : ℕ) {end frame : ℕ} {slots : List ℕ} (h : HeaderThere (drop p s) end frame slots) where
-  there : read_info (drop p s) ≡ onward (or_else (read_codes frame slots) 77) (λ cs. good (info_with (drop p s) cs))
+  pub there : read_info (drop p s) ≡ onward (or_else (read_codes frame slots) 77) (λ cs. good (info_with (drop p s) cs))
   unfolding read_info
   there =
       rw (h.holds, h.frames)

@@ -1,6 +1,4 @@
 -- `call_sites::list_sites` meets its contract.
-use mathlib.Core.Path.{sym}
-use native.Mathlib.Omega.{arith}
 use lib.ListN.{length}
 use Rattle.std.proofs.lemmas.Result.{err_from_is_err_and}
 use Rattle.format.specs.CallSiteReader.{sites_short}

@@ -1,7 +1,7 @@
 -- `call_sites::Table::search` meets its contract.
 use mathlib.Core.Path.{sym, ap}
 use Rattle.operations.specs.declared.fields.Position.{Position}
-use Rattle.call_sites.proofs.Runs.{Covering, start, more, none_left, there, none_there, forward, unread, none_covering, covering_turn, found_unread, all_found}
+use Rattle.call_sites.proofs.Runs.{Covering, start, more, none_left, none_there, forward, unread, none_covering, covering_turn, found_unread, all_found}
 use Rattle.call_sites.proofs.Table.search.Goals as goal
 
 pub loop-read-init : goal.loop-read-init

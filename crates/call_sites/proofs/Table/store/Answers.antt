@@ -1,7 +1,7 @@
 -- `call_sites::Table::store` meets its contract.
 use Prim.Native.Nat.{◌+◌}
 use native.Mathlib.Omega.{arith}
-use Rattle.call_sites.proofs.Runs.{Storing, start, more, none_left, there, none_there, forward, storing, store_turn, kept, room_left, all_stored, never_unread}
+use Rattle.call_sites.proofs.Runs.{Storing, start, more, none_left, there, none_there, forward, storing, store_turn, room_left, all_stored, never_unread}
 use Rattle.call_sites.proofs.Table.store.Goals as goal
 
 pub loop-read-init : goal.loop-read-init
