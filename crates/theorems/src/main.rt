@@ -8,8 +8,9 @@
 #![tactic(auto)]
 
 use format::{CfaRule, Counts, Question, Refusal, Rule, Rules};
+use round_trips::{entries, indexed, marked};
 use std::io;
-use unwind::Format;
+use unwind::{Format, Numbers};
 use walk::Memory;
 use x64_back::undo::{self, Registers};
 use x64_reader::X64Reading;
@@ -209,6 +210,60 @@ fn in_place(rt: &impl Print, k: u64, q: u16, p: u64) -> io::Result<()> {
     let field = i32::from_le_bytes([out[84], out[85], out[86], out[87]]);
     println!(rt; "    {}: {field} at 84", said.answer.number)?;
     rules(rt, said.answer.reading)
+}
+
+// What `unwind_read` answers: the numbers of the rules, and last that every number was spelled shortest.
+fn numbers(rt: &impl Print, read: Numbers) -> io::Result<()> {
+    println!(
+        rt;
+        "    {}: frame address {} {} {}, rule {} {}, signing {}, shortest {}",
+        read.number,
+        read.frame,
+        read.frame_register,
+        read.frame_offset,
+        read.rule,
+        read.rule_value,
+        read.signing,
+        read.shortest
+    )
+}
+
+// The same reading with its mark, and then by the index of the section and from entry to entry: whether it is a header, its place, and
+// the number in its length field.
+fn entries_and_index(rt: &impl Print, k: u64, q: u16, p: u64) -> io::Result<()> {
+    let mut to = Lent::new();
+    let said = marked::write_and_read_marked(
+        false,
+        &machine(),
+        u64::from(Format::Elf),
+        &FUNCTIONS,
+        &ROWS,
+        &LANDINGS,
+        &PAIRS,
+        &mut to.places,
+        &mut to.bytes,
+        &mut to.relocations,
+        &mut to.sites,
+        k,
+        q,
+        p,
+    );
+    heading(rt, "round_trips::write_and_read_marked", said.outcome)?;
+    numbers(rt, said.answer)?;
+    let section = &to.bytes[..136];
+    let mut index = [0; 32];
+    let read = indexed::read_by_index(section, &PAIRS, 0, 8, &mut index, k, q, p);
+    println!(rt; "round_trips::read_by_index: {}", read.indexed.number)?;
+    numbers(rt, read.answer)?;
+    let mut held = [0; 15];
+    match entries::list_entries(section, 0, &mut held) {
+        Ok(count) => println!(rt; "round_trips::list_entries: {count}")?,
+        Err(question) => println!(rt; "round_trips::list_entries: {}", question.number())?,
+    }
+    for i in 0..5 {
+        println!(rt; "    {} {} {}", held[3 * i], held[3 * i + 1], held[3 * i + 2])?;
+    }
+    Ok(())
 }
 
 fn both_sections(rt: &impl Print, k: u64, q: u16, p: u64) -> io::Result<()> {
@@ -426,6 +481,7 @@ fn x64_rows(rt: &impl Print) -> io::Result<()> {
 fn main(rt: HostRuntime) -> io::Result<()> {
     read_back(&rt, false, 1, 6, 12)?;
     read_back(&rt, true, 2, 3, 20)?;
+    entries_and_index(&rt, 1, 6, 12)?;
     in_place(&rt, 1, 6, 12)?;
     both_sections(&rt, 0, 16, 8)?;
     checked(&rt)?;
