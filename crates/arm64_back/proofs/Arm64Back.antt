@@ -19,14 +19,14 @@ use Rattle.format.proofs.ListLaws.{each_get}
 use Rattle.format.proofs.Choice.{if-eq, decided}
 use Rattle.arm64.specs.Lists.{Function, function_stride, epilogue_stride, code_stride, numbered_code, numbered_epilogue, numbered_function, functions_of}
 use Rattle.arm64.specs.Reader.{Unwound, all_codes, full_record, unwound_by, fits_in, read_arm64}
-use Rattle.arm64.specs.Writer.{code_ok_at, codes_ok_in, epilogue_ok_at, function_ok_at, codes_in, lists_ok, is_packed, record_bytes, function_asks, row_bytes, info_of, markers_from, rows_of, infos_of, arm64, arm64_answer}
+use Rattle.arm64.specs.Writer.{code_ok_at, codes_ok_in, epilogue_ok_at, function_ok_at, codes_in, lists_ok, is_packed, record_bytes, function_asks, row_bytes, info_of, markers_from, rows_of, infos_of, no_record, arm64, arm64_answer}
 use Rattle.arm64.proofs.WriterLaws.{row_length}
-use Rattle.arm64_back.specs.Back.{whole_code, whole_codes, SameUnwound, given, written, ReadBack, second_word, EntryWord, SameReading, BytesAt}
+use Rattle.arm64_back.specs.Back.{whole_code, whole_codes, SameUnwound, given, written, ReadBack, second_word, EntryWord, BytesAt}
 use Rattle.arm64_back.proofs.RunBack.{stands_behind, stands_before, stands_first, stands_right}
 use Rattle.arm64_back.proofs.HeaderBack.{word_back}
 use Rattle.arm64_back.proofs.SameReadings.{written_means, many_epilogues, many_codes}
 use Rattle.arm64_back.proofs.RecordBack.{Asked, all_asked, ask_yes, record_read, record_whole}
-use Rattle.arm64_back.proofs.PackedForm.{word_for, word_fits, packed_as_full}
+use Rattle.arm64_back.proofs.PackedForm.{word_for, word_fits}
 use Rattle.arm64_back.proofs.PackedForm as packed
 use Rattle.std.proofs.lemmas.Bool.{and_parts, and_from}
 
@@ -120,6 +120,16 @@ marker_in at (x ∷ xs) zero f h g n =
     let m : is_packed x ≡ false = ap is_packed same ∙ n in rw m h
 marker_in at (x ∷ xs) (suc k) f h g n = marker_in (at + length (info_of x)) xs k f (omega (arith, info_whole x)) g n
 
+-- a packed function has none
+packed_marker : (at : ℕ) (fs : List Function) (k : ℕ) (f : Function) → get_elem? fs k ≡ some f → is_packed f ≡ true
+    → get_or (markers_from at fs) k 0 ≡ no_record
+unfolding markers_from pick
+packed_marker at [] k f g t = let z : ◌≡◌ {A = ℕ} 0 1 = cc in absurd (omega arith)
+packed_marker at (x ∷ xs) zero f g t =
+    let same : x ≡ f = cc in
+    let m : is_packed x ≡ true = ap is_packed same ∙ t in rw m
+packed_marker at (x ∷ xs) (suc k) f g t = packed_marker (at + length (info_of x)) xs k f g t
+
 row_stands : (fs : List Function) (k : ℕ) (f : Function) → get_elem? fs k ≡ some f → BytesAt (rows_of fs) (8 * k) (row_bytes f)
 unfolding rows_of
 row_stands [] k f g = let z : ◌≡◌ {A = ℕ} 0 1 = cc in absurd (omega arith)
@@ -172,7 +182,7 @@ module _ (f : Function) (a : Asked f) where
 
 -- ---- room for what is read
 
-room_enough : (u v : Unwound) → SameUnwound u v → (es cs : List ℕ) → length v.epilogues ≤ count epilogue_stride es
+pub room_enough : (u v : Unwound) → SameUnwound u v → (es cs : List ℕ) → length v.epilogues ≤ count epilogue_stride es
     → length (all_codes v) ≤ count code_stride cs → fits_in es cs u ≡ good u
 unfolding fits_in pick
 room_enough u v a es cs g h =
@@ -260,11 +270,7 @@ module _ (fs es cs : List ℕ) (r : Room) (w : Written) (e : arm64_answer fs es 
     unfolding arm64
     marker_whole n = ap (λ x. get_or x.places k 0 % 4) (sym wrote.is) ∙ marker_in 0 (functions_of fs es cs) k this refl there n
 
-    -- Where it is packed, the word means what the function's full record would mean, wherever that stood.
-    pub arm64_packed : is_packed this ≡ true → (s : List ℕ) (place : ℕ) (bytes : List ℕ) (p : ℕ) → BytesAt bytes p (record_bytes this)
-        → SameReading (unwound_by (second_word w.bytes k) s place) (full_record bytes p)
+    -- The marker of a packed function is no place.
+    pub marker_packed : is_packed this ≡ true → get_or w.places k 0 ≡ no_record
     unfolding arm64
-    arm64_packed t s place bytes p u =
-        let word : second_word w.bytes k ≡ word_for this =
-        ap (λ x. second_word x.bytes k) (sym wrote.is) ∙ second_word_lem this this_asked (functions_of fs es cs) k there ∙ packed_word this this_asked t in
-        subst (λ (n : ℕ). SameReading (unwound_by n s place) (full_record bytes p)) (sym word) (packed_as_full this this_asked t s place bytes p u)
+    marker_packed t = ap (λ x. get_or x.places k 0) (sym wrote.is) ∙ packed_marker 0 (functions_of fs es cs) k this there t

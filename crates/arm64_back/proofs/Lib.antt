@@ -9,4 +9,6 @@ pub mod RecordBack
 pub mod PackedForm
 pub mod Arm64Back
 pub mod BuffersBack
+pub mod Together
+pub mod Down
 pub mod Examples

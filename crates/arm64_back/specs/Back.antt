@@ -1,16 +1,13 @@
--- What holds of a function that was written and read back (request W-212, "Read back, length and starts are as given, each code does what the given
--- one does, and a packed word means what its full record would mean").
-use Rattle.std.specs.Prelude.{◌≡◌, Bool, true, false, ◌&&◌, List, [], ◌∷◌, ◌++◌, map, length, ℕ, ◌+◌, ◌*◌, ◌%◌, ◌≤◌, ◌<◌}
+-- What holds of a function that was written and read back: its length and its epilogues' starts are as given, and each code does what the given one
+-- does.
+use Rattle.std.specs.Prelude.{◌≡◌, Bool, true, false, ◌&&◌, List, [], ◌∷◌, ◌++◌, map, length, ℕ, ◌+◌, ◌*◌, ◌%◌}
 use Rattle.format.specs.Prelude.{Result, good, all}
-use Rattle.format.specs.Lists.{count}
-use Rattle.format.specs.Writer.{Written}
-use Rattle.format.specs.Questions.{Answer, accepted}
 use Rattle.arm64.specs.declared.Code.{Code}
 use Rattle.arm64.specs.Codes.{code_fits}
-use Rattle.arm64.specs.Lists.{Epilogue, Function, function_stride, epilogue_stride, code_stride, numbered_function}
+use Rattle.arm64.specs.Lists.{Epilogue, Function}
 use Rattle.arm64.specs.Meaning.{reverse, prologue_means, epilogue_means}
 use Rattle.arm64.specs.Records.{word_at}
-use Rattle.arm64.specs.Reader.{Unwound, epilogue, all_codes}
+use Rattle.arm64.specs.Reader.{Unwound, epilogue}
 use Rattle.arm64.specs.Writer.{code_ok, prologue_run, epilogue_run, is_packed}
 
 -- ---- question 13 of a function's codes
@@ -85,19 +82,3 @@ second_word bytes k = word_at bytes (8 * k + 4)
 pub record EntryWord (f : Function) (bytes : List ℕ) (k word : ℕ) : Type 0 where
   pub packed : is_packed f ≡ true → word ≡ second_word bytes k
   pub placed : is_packed f ≡ false → word % 4 ≡ 0
-
--- two readers answer, and their answers say the same
-pub record SameReading (q r : Result Unwound) : Type 0 where
-  pub first : Unwound
-  pub second : Unwound
-  pub one : q ≡ good first
-  pub other : r ≡ good second
-  pub same : SameUnwound first second
-
--- What a reader answers of the buffers that were lent to the writer, by function k's row in `bytes` as it may stand in the finished file: where the
--- list was accepted, and the reader's lists have room for as many epilogues and codes as were given, the function as it was given.
-abbrev pub BuffersBack : (fs es cs : List ℕ) → Answer → (k : ℕ) → (bytes : List ℕ) → (word : ℕ) → (es' cs' : List ℕ) → Result Unwound → Type 0
-BuffersBack fs es cs a k bytes word es' cs' r =
-    (w : Written) → a ≡ accepted w → k < count function_stride fs → EntryWord (numbered_function fs es cs k) bytes k word
-    → length (numbered_function fs es cs k).epilogues ≤ count epilogue_stride es'
-    → length (all_codes (given (numbered_function fs es cs k))) ≤ count code_stride cs' → ReadBack (given (numbered_function fs es cs k)) r

@@ -1,2 +1,4 @@
--- What holds of a function that was written and read back (request W-212).
+-- What holds of a function that was written and read back, and of a packed word.
 pub mod Back
+pub mod Together
+pub mod Down
