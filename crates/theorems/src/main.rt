@@ -66,6 +66,16 @@ const X64_FUNCTIONS: [u64; 5] = [16, 40, 10, 0, 3];
 
 const X64_CODES: [u64; 15] = [1, 0, 5, 0, 0, 5, 1, 0, 0, 32, 10, 2, 5, 0, 16];
 
+// A function of ARM64, 40 bytes: stp x29, lr, [sp, -16]!; mov x29, sp; and at its end ldp x29, lr, [sp], 16 and the ret, at 32. One word stands
+// for it (Microsoft, ARM64 exception handling, packed unwind data): flag 1, 10 instructions, CR 3, FrameSize 1, 0x00e00029.
+const ARM64_FUNCTIONS: [u64; 6] = [16, 40, 0, 2, 0, 1];
+
+const ARM64_EPILOGUES: [u64; 3] = [32, 2, 1];
+
+const ARM64_CODES: [u64; 9] = [3, 0, 16, 13, 0, 0, 3, 0, 16];
+
+const ARM64_WORD: u32 = 0x00e00029;
+
 // ---- the recorded fault: `sample` stopped at 20
 //
 // There the frame address is rsp + 48, 0x8030, and the return address 8 below it: 0x1114, 20 into
@@ -478,6 +488,48 @@ fn x64_rows(rt: &impl Print) -> io::Result<()> {
     }
 }
 
+fn arm64_function(rt: &impl Print) -> io::Result<()> {
+    let mut to = Lent::new();
+    let mut epilogues = [0; 3];
+    let mut codes = [0; 9];
+    let said = arm64_back::write_and_read(
+        &ARM64_FUNCTIONS,
+        &ARM64_EPILOGUES,
+        &ARM64_CODES,
+        &mut to.places,
+        &mut to.bytes,
+        &mut to.relocations,
+        &mut to.sites,
+        0,
+        0,
+        &mut epilogues,
+        &mut codes,
+    );
+    heading(rt, "arm64_back::write_and_read", said.outcome)?;
+    let word = u32::from_le_bytes([to.bytes[4], to.bytes[5], to.bytes[6], to.bytes[7]]);
+    println!(rt; "    word {word}")?;
+    match said.answer {
+        Some(read) => println!(
+            rt;
+            "    {}: length {}, {} codes, {} epilogues, {} in all",
+            read.number,
+            read.length,
+            read.prologue,
+            read.epilogues,
+            read.codes
+        )?,
+        None => println!(rt; "    no row")?,
+    }
+    println!(rt; "    epilogue {} {} {}", epilogues[0], epilogues[1], epilogues[2])?;
+    for i in 0..3 {
+        println!(rt; "    {} {} {}", codes[3 * i], codes[3 * i + 1], codes[3 * i + 2])?;
+    }
+    match arm64_back::packed_down(ARM64_WORD) {
+        Some(down) => println!(rt; "arm64_back::packed_down: {down}"),
+        None => println!(rt; "arm64_back::packed_down: no word"),
+    }
+}
+
 fn main(rt: HostRuntime) -> io::Result<()> {
     read_back(&rt, false, 1, 6, 12)?;
     read_back(&rt, true, 2, 3, 20)?;
@@ -490,5 +542,6 @@ fn main(rt: HostRuntime) -> io::Result<()> {
     site(&rt, 1, 17)?;
     all_sites(&rt, 1)?;
     x64_record(&rt)?;
-    x64_rows(&rt)
+    x64_rows(&rt)?;
+    arm64_function(&rt)
 }
