@@ -4,6 +4,7 @@ use Rattle.std.specs.Prelude.{ℕ, zero, suc, ◌/◌, Bool, List, [], ◌∷◌
 use Rattle.format.specs.Put.{put}
 use Rattle.format.specs.Coded.{Reading}
 use Rattle.format.specs.Answers.{cfa_numbers, rule_numbers, bit}
+use Rattle.reads.specs.declared.Located.{Located}
 use Rattle.lookup.specs.declared.AllRules.{AllRules}
 
 -- as many registers as a lent list has room for, of those that 16 bits name
