@@ -1,7 +1,7 @@
 //! What may be missing where no function holds an address: a module, or an option.
 
 use crate::args::Args;
-use crate::input::{fitted, File, Section};
+use crate::input::{fitted, File, Section, DEBUG_FRAME, EH_FRAME};
 use crate::object::Object;
 use crate::replay::{End, Replay};
 
@@ -36,10 +36,11 @@ fn elf(args: &Args, file: &File, object: &Object, section: &Section<'_>, asked: 
     let table = section.name.as_deref().unwrap_or("the table");
     let held = object.sections.iter().find(|held| held.address != 0 && linked.wrapping_sub(held.address) < held.size);
     if let Some(held) = held {
-        return format!(
-            "The address lies in {} of {}, and {table} has no record for it: code without unwind rows, or with rows in another section (--section).",
-            held.name, file.name
-        );
+        let other = [EH_FRAME, DEBUG_FRAME].into_iter().find(|name| *name != table && object.position(name).is_some());
+        let rows = other.map_or("code without unwind rows".to_string(), |other| {
+            format!("code without unwind rows, or with rows in {other} (--section {other})")
+        });
+        return format!("The address lies in {} of {}, and {table} has no record for it: {rows}.", held.name, file.name);
     }
     let loaded = object.segments.iter().map(|part| (part.address, part.address.saturating_add(part.size)));
     let (from, to) = loaded.fold((u64::MAX, 0), |(from, to), part| (from.min(part.0), to.max(part.1)));

@@ -336,6 +336,8 @@ impl<'a> Listing<'a> {
     fn rows(&self, cie: &Cie, record: Option<Range<u64>>, start: u64) -> Option<Rows> {
         let mut rows =
             Rows { cie: cie.clone(), bytes: Vec::new(), header: 0, locations: vec![start], offsets: Vec::new(), padding: true };
+        // What readelf has before a rule is stated.
+        rows.put(0x0c, &[0, 0]);
         self.translated(cie.operations.clone(), &mut rows)?;
         rows.header = rows.bytes.len() as u64;
         if let Some(record) = record {
@@ -414,7 +416,6 @@ impl<'a> Listing<'a> {
                 return;
             }
             Frame::Register { register, offset } => (register, offset),
-            // What readelf has before a rule is stated.
             Frame::Unset => (0, 0),
         };
         out.text(&self.section.names.text(u64::from(register))).offset(i64::from(offset as i32));
