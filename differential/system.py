@@ -1,7 +1,7 @@
 #!/usr/bin/env python3
 """The command over every ELF file below folders, as a new user would: `system.py [FOLDER..]`, /usr/bin, /usr/sbin and /usr/lib by default.
 
-For each file with frame sections `dekvoz dump --readelf` is compared with `readelf --debug-dump=frames-interp` byte by byte, and the rows that
+For each file with frame sections `dekvoz dump --readelf` is compared with `readelf --debug-dump=frames-interp,no-follow-links` byte by byte, and the rows that
 `dekvoz dump` lists with readelf's. An answer with status 0 that readelf contradicts fails the run; what is refused is counted. `check` must
 have the status of what `dump` refuses: 0 only where nothing is."""
 
@@ -18,6 +18,8 @@ sys.path = [folder for folder in sys.path if os.path.abspath(folder) != HERE] + 
 from dump import DEKVOZ, Differs, alike, entries  # noqa: E402
 
 FOLDERS = ["/usr/bin", "/usr/sbin", "/usr/lib"]
+# Without the debug file of a program, which readelf names in its first line where it finds one.
+READELF = "--debug-dump=frames-interp,no-follow-links"
 # readelf's listing of a larger file takes minutes.
 LARGEST = 256 << 20
 
@@ -73,7 +75,7 @@ def rows(said, ours, counts):
 
 def one(path):
     counts = collections.Counter(files=1)
-    readelf, exact = run("readelf", "--debug-dump=frames-interp", path), run(DEKVOZ, "dump", "--readelf", path)
+    readelf, exact = run("readelf", READELF, path), run(DEKVOZ, "dump", "--readelf", path)
     plain, checked = run(DEKVOZ, "dump", path), run(DEKVOZ, "check", path)
     for done in (exact, plain, checked):
         if done.returncode not in (0, 1):
