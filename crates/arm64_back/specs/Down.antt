@@ -1,5 +1,5 @@
--- How far down a packed word's prologue moves the stack pointer (Microsoft, "ARM64 exception handling", "Packed unwind data": FrameSize is the whole
--- frame, in 16 bytes).
+-- How far down a packed word's prologue moves the stack pointer (Microsoft, "ARM64 exception handling",
+-- "Packed unwind data": FrameSize is the whole frame, in 16 bytes).
 use Rattle.std.specs.Prelude.{ℕ, ◌+◌, ◌%◌, Bool, ◌&&◌, ◌||◌, List, [], ◌∷◌, eqb, Some, None}
 use Rattle.std.specs.Prelude as code
 use Rattle.std.proofs.Math.Option.{Option, none, some}
