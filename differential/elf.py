@@ -577,6 +577,7 @@ def with_addr2line(count, seed):
     """What our program finds begins where the function begins that addr2line names. It names none in some stripped files, and where
     nothing covers an address the one in front."""
     rng, asked, covered, n = random.Random(seed), 0, 0, 0
+    os.makedirs(os.path.join(OUT, "elf"), exist_ok=True)
     for path in rng.sample(list(files()), count):
         f = File(whole(path)[1])
         try:
