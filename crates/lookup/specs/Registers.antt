@@ -4,6 +4,8 @@ use Rattle.std.specs.Prelude.{ℕ, zero, suc, ◌/◌, Bool, List, [], ◌∷◌
 use Rattle.format.specs.Put.{put}
 use Rattle.format.specs.Coded.{Reading}
 use Rattle.format.specs.Answers.{cfa_numbers, rule_numbers, bit}
+use Rattle.reader.specs.Finds.{shortest_from}
+use Rattle.reads.specs.Places.{reader_places, rules_of}
 use Rattle.reads.specs.declared.Located.{Located}
 use Rattle.lookup.specs.declared.AllRules.{AllRules}
 

@@ -10,5 +10,6 @@ pub mod Files
 pub mod Turns
 pub mod Listing
 pub mod Chains
+pub mod Finding
 pub mod OwnNumbers
 pub mod Vectors

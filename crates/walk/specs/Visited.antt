@@ -8,12 +8,12 @@ use Rattle.walk.specs.Recorded.{Recorded, read_recorded}
 use Rattle.walk.specs.Walk.{Source, Fault, Caller, most_frames, held_at, caller_of, placed_of}
 
 -- what is visited from something on, where there is something
-unfoldable pub from_some : {A : Type 0} → Option A → (A → List ℕ) → List ℕ
+unfoldable pub from_some : {A B : Type 0} → Option A → (A → List B) → List B
 from_some none more = []
 from_some (some a) more = more a
 
 -- what is visited behind a frame: nothing where its caller is refused, or where it has none
-unfoldable pub from_caller : Result (Option Caller) → (Caller → List ℕ) → List ℕ
+unfoldable pub from_caller : {B : Type 0} → Result (Option Caller) → (Caller → List B) → List B
 from_caller (good o) more = from_some o more
 from_caller (bad n) more = []
 
