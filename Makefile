@@ -12,6 +12,7 @@ bin = $(DESTDIR)$(PREFIX)/bin
 lib = $(DESTDIR)$(PREFIX)/lib
 include = $(DESTDIR)$(PREFIX)/include
 man = $(DESTDIR)$(PREFIX)/share/man/man1
+completions = $(DESTDIR)$(PREFIX)/share/bash-completion/completions
 archive = target/lib/libdekvoz.a
 command = target/cli/release/dekvoz
 
@@ -42,6 +43,7 @@ install: all
 	install -D -m 644 target/dekvoz.pc $(lib)/pkgconfig/dekvoz.pc
 	install -D -m 644 include/dekvoz.h $(include)/dekvoz.h
 	install -D -m 644 cli/dekvoz.1 $(man)/dekvoz.1
+	install -D -m 644 cli/dekvoz.bash $(completions)/dekvoz
 
 uninstall:
-	rm -f $(bin)/dekvoz $(lib)/libdekvoz.a $(lib)/pkgconfig/dekvoz.pc $(include)/dekvoz.h $(man)/dekvoz.1
+	rm -f $(bin)/dekvoz $(lib)/libdekvoz.a $(lib)/pkgconfig/dekvoz.pc $(include)/dekvoz.h $(man)/dekvoz.1 $(completions)/dekvoz

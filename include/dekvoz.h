@@ -117,9 +117,68 @@ enum unwind_question {
     UNWIND_QUESTION_ARM64_EPILOGUES = 82, UNWIND_QUESTION_ARM64_VALUES = 83, UNWIND_QUESTION_EVERY_OFFSET = 84
 };
 
+/* What is wrong where a question is answered by no, in words: for a message. NULL where no question has that number. */
+static inline const char *unwind_question_words(uint64_t question) {
+    switch (question) {
+    case 11: return "the machine, format, section kind or word is none that is known";
+    case 12: return "x64 unwind data and the walk ask for words of 8 bytes";
+    case 13: return "there are more functions or records than allowed, a range outside its list, or a number that its field does not hold";
+    case 21: return "the function's length does not fit its field";
+    case 22: return "an encoding of personality or LSDA is none that can be written";
+    case 23: return "a row goes back, or steps above 2^32 - 1";
+    case 24: return "an offset is no multiple of the word";
+    case 25: return "the two places of a pair are the same";
+    case 31: return "the frame pointer is set before the frame is taken";
+    case 32: return "the frame is counted from a scratch register";
+    case 33: return "a group of rows cannot be read as prologue codes";
+    case 34: return "a register is none of the machine's below 16";
+    case 35: return "a code's offset, or the prologue's end, is above 255";
+    case 36: return "an allocation is not positive, or no multiple of 8";
+    case 37: return "an allocation is 2^32 or more";
+    case 38: return "a register is saved below the frame";
+    case 39: return "a register is saved at 2^32 or above";
+    case 40: return "there are more than 255 slots";
+    case 41: return "the frame's offset is above 240, or no multiple of 16";
+    case 51: return "the header places or markers do not fit their buffer";
+    case 52: return "the bytes do not fit their buffer";
+    case 53: return "the relocations do not fit their buffer";
+    case 54: return "the call sites, the x64 or ARM64 info, codes, numbers, places, frames or lines do not fit their buffer, or the numbers' is not zero so far";
+    case 61: return "no entry fits what is left of the section";
+    case 62: return "there is no such record";
+    case 63: return "the record names no header (CIE) that starts earlier in the section";
+    case 64: return "a field of header or record is cut off, or not one that these tables have";
+    case 65: return "the offset is not below the function's length";
+    case 66: return "an operation is cut off, or not one that these tables use";
+    case 67: return "a state is restored that was not stored, or a register in a header";
+    case 68: return "more than 16 states are stored";
+    case 69: return "the frame address (CFA) rule is changed where there is none";
+    case 71: return "no table of call sites with the head ff ff 01 stands there, or it is cut off";
+    case 72: return "an entry of the table of call sites is cut off, or its end is above 2^64 - 1";
+    case 73: return "the file is no recorded fault of 16 to 65,536 bytes with a trailer that matches";
+    case 74: return "a stack word lies outside the record, or an address sum outside 64 bits";
+    case 75: return "a register that is needed is lost or absent, or a frame has no address (CFA) rule";
+    case 76: return "no x64 record of version 1 without flags, or ARM64 record of version 0, stands there, or it is cut off";
+    case 77: return "an x64 or ARM64 code is cut off, or not one that these tables use; or an ARM64 entry's word is not defined";
+    case 78: return "eh_frame of Mach-O is not written any more";
+    case 79: return "a relocation is of no kind or size that is written, lacks its partner or address, or its field or value does not fit";
+    case 80: return "the distance of a Set and Sub pair does not fit its field";
+    case 81: return "the length of an ARM64 function is not whole instructions, or more than 262143 of them";
+    case 82: return "an ARM64 epilogue starts off an instruction, or not below the function's length";
+    case 83: return "a register or offset of an ARM64 code is none that it can name, or a count is too large for its field";
+    case 84: return "a record's length is cut off, or it cannot be read at some offset below its length";
+    default: return NULL;
+    }
+}
+
 /* The ready x86-64 (System V psABI) at the front of a lent list of 70 numbers or more: 0, or 54 where there are fewer, and the list
  * is then as it was. */
 uint64_t unwind_machine_x86_64(uint64_t *machine, size_t machine_n);
+/* The same of AArch64, ARM of 32 bits, and RISC-V of 64 and 32 bits: their psABIs' numbers of stack pointer, return address and
+ * frame pointer, and the integer registers 0 to 31 (ARM: to 15) by DWARF's numbers. */
+uint64_t unwind_machine_aarch64(uint64_t *machine, size_t machine_n);
+uint64_t unwind_machine_arm(uint64_t *machine, size_t machine_n);
+uint64_t unwind_machine_riscv64(uint64_t *machine, size_t machine_n);
+uint64_t unwind_machine_riscv32(uint64_t *machine, size_t machine_n);
 
 /* What a writer answers. `number` is 0 where the call was accepted, and where the result is empty: of an empty list, Wasm,
  * Plan 9, and debug_frame in any format but ELF. Else it is the question's, and `position` is the function's, from 0 (0 for 11
@@ -259,6 +318,29 @@ typedef struct {
  * does. */
 unwind_holder unwind_record_of(
     const uint8_t *section, size_t section_n, uint64_t kind, uint64_t word, uint64_t address, uint64_t pc);
+
+/* A record by its number and its place, and the place of its header. On a refusal all but `number` is 0. */
+typedef struct {
+    uint64_t number, k, record, header;
+} unwind_entries;
+
+/* The record that unwind_record_of answers, and its header: 11, 61; 62 where no record holds pc; 63 where it has no header. By these
+ * two places unwind_locate_at goes on without a pass over the section. */
+unwind_entries unwind_entries_of(
+    const uint8_t *section, size_t section_n, const uint64_t *relocations, size_t relocations_n,
+    uint64_t kind, uint64_t word, uint64_t address, uint64_t pc);
+
+/* The rules of all registers at a place: the rule of the frame address, the signing mark and `shortest` as in unwind_reading, and for how
+ * many registers two numbers are stored. On a refusal all but `number` is 0. */
+typedef struct {
+    uint64_t number, frame, frame_register, frame_offset, signing, shortest, registers;
+} unwind_all_rules;
+
+/* The rules at p of registers 0, 1, .., from what unwind_locate or unwind_locate_at answered: two numbers a register, `rule` and
+ * `rule_value` as unwind_rules_at answers them, at the front of a lent list, for as many registers as it has room for (65,536 at most).
+ * A refusal is that of unwind_rules_at, and the list is then as it was. */
+unwind_all_rules unwind_all_rules_at(
+    const uint8_t *section, size_t section_n, unwind_located located, uint64_t p, uint64_t *rules, size_t rules_n);
 
 /* What the walk answers: `number` is 0, or the question's. frames: how many there are, at most 64. ending: 1 the rules of the last frame
  * leave the return address undefined, 2 no function holds the address, 3 a 65th frame would follow. All are 0 on a refusal. */

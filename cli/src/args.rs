@@ -9,18 +9,19 @@ pub struct Usage(pub String);
 pub struct Args {
     /// The command; none where nothing but options stands there.
     pub command: Option<String>,
-    /// The file; `-` is standard input.
-    pub file: Option<String>,
+    /// The files; `-` is standard input.
+    pub files: Vec<String>,
     options: BTreeMap<&'static str, String>,
 }
 
 /// The options with a value.
-const VALUED: [&str; 18] = [
+const VALUED: [&str; 20] = [
     "--section",
     "--kind",
     "--word",
     "--address",
     "--base",
+    "--load-base",
     "--machine",
     "--relocations",
     "--record",
@@ -33,10 +34,13 @@ const VALUED: [&str; 18] = [
     "--pc",
     "--stack",
     "--functions",
+    "--build-id",
     "--html",
 ];
 /// Those without one.
-const PLAIN: [&str; 5] = ["--operations", "--linked", "--json", "--help", "--version"];
+const PLAIN: [&str; 6] = ["--operations", "--readelf", "--linked", "--json", "--help", "--version"];
+/// Their short forms.
+const SHORT: [(&str, &str); 2] = [("-h", "--help"), ("-V", "--version")];
 
 /// A number, decimal or after 0x hexadecimal.
 pub fn number(text: &str) -> Option<u64> {
@@ -54,14 +58,14 @@ impl Args {
     /// # Errors
     /// An unknown option, a missing value, a word too many.
     pub fn new(words: impl Iterator<Item = String>) -> Result<Args, Usage> {
-        let mut args = Args { command: None, file: None, options: BTreeMap::new() };
+        let mut args = Args { command: None, files: Vec::new(), options: BTreeMap::new() };
         let mut words = words;
         let mut only_words = false;
         while let Some(word) = words.next() {
             if word == "--" && !only_words {
                 only_words = true;
             } else if only_words || word == "-" || !word.starts_with('-') {
-                args.word(word)?;
+                args.word(word);
             } else {
                 args.option(&word, &mut words)?;
             }
@@ -69,21 +73,27 @@ impl Args {
         Ok(args)
     }
 
-    fn word(&mut self, word: String) -> Result<(), Usage> {
-        if self.command.is_none() {
-            self.command = Some(word);
-        } else if self.file.is_none() {
-            self.file = Some(word);
-        } else {
-            return Err(Usage(format!("one file is taken, and `{word}` is one more word")));
+    fn word(&mut self, word: String) {
+        match self.command {
+            None => self.command = Some(word),
+            Some(_) => self.files.push(word),
         }
-        Ok(())
+    }
+
+    /// The first file.
+    pub fn file(&self) -> Option<&str> {
+        self.files.first().map(String::as_str)
+    }
+
+    /// The same with one file.
+    pub fn of_file(&self, file: &str) -> Args {
+        Args { command: self.command.clone(), files: vec![file.to_string()], options: self.options.clone() }
     }
 
     fn option(&mut self, word: &str, words: &mut impl Iterator<Item = String>) -> Result<(), Usage> {
         let (name, value) = match word.split_once('=') {
             Some((name, value)) => (name, Some(value.to_string())),
-            None => (if word == "-h" { "--help" } else { word }, None),
+            None => (SHORT.iter().find(|(short, _)| *short == word).map_or(word, |(_, long)| *long), None),
         };
         if let Some(known) = PLAIN.iter().find(|known| **known == name) {
             if value.is_some() {

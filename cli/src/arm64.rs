@@ -5,7 +5,7 @@ use dekvoz::Refusal;
 
 use crate::args::{Args, Usage};
 use crate::input::File;
-use crate::object::{self, Coff, Section};
+use crate::object::{self, Coff};
 use crate::out::Out;
 use crate::{json, words, Stop};
 
@@ -51,7 +51,7 @@ pub fn run(args: &Args) -> Result<bool, Stop> {
     let file = File::new(args)?;
     let coff = coff(&file)?;
     let (found, left) = match &coff {
-        Some(coff) if !args.has("--section") && coff.sections.iter().any(|section| part(section, PDATA)) => {
+        Some(coff) if !args.has("--section") && coff.sections.iter().any(|section| section.is_part(PDATA)) => {
             if args.has("--place") {
                 return Err(Stop::Usage(Usage("--place is of records; --section .xdata names a section of them".to_string())));
             }
@@ -80,7 +80,7 @@ fn alone(args: &Args, word: u64) -> Result<bool, Stop> {
     if let Some(option) = ["--section", "--place"].into_iter().find(|option| args.has(option)) {
         return Err(Stop::Usage(Usage(format!("{option} does not go with --packed"))));
     }
-    if args.file.is_some() {
+    if args.file().is_some() {
         return Err(Stop::Usage(Usage("--packed takes no file".to_string())));
     }
     match u32::try_from(word) {
@@ -99,11 +99,6 @@ fn coff(file: &File) -> Result<Option<Coff>, Stop> {
         }
         coff => Ok(coff),
     }
-}
-
-/// Whether a section has this name, or is a part of it.
-fn part(section: &Section, name: &str) -> bool {
-    section.plain && section.name.strip_prefix(name).is_some_and(|rest| rest.is_empty() || rest.starts_with('$'))
 }
 
 /// The bytes of a section of records: of an ELF or COFF file, or raw.
@@ -131,7 +126,7 @@ fn word(bytes: &[u8], at: usize) -> Option<u32> {
 /// The entries of every part of .pdata, each with its record.
 fn entries<'a>(file: &'a File, coff: &Coff) -> Vec<Found<'a>> {
     let (mut found, names) = (Vec::new(), coff.names(&file.bytes));
-    for section in coff.sections.iter().filter(|section| part(section, PDATA)) {
+    for section in coff.sections.iter().filter(|section| section.is_part(PDATA)) {
         let relocations = coff.relocations(&file.bytes, section);
         let symbol = |at: usize| relocations.get(&(at as u64)).filter(|_| !coff.image);
         for (n, entry) in file.bytes[section.bytes.clone()].chunks_exact(ENTRY).enumerate() {
@@ -320,12 +315,46 @@ fn run_as_json(out: &mut Out, key: &str, codes: &[Code], undone: bool) {
     out.text("[");
     for (n, code) in codes.iter().enumerate() {
         out.text(if n == 0 { "{" } else { ", {" });
-        json::text(out, "code", &format!("{code:?}"));
+        code_as_json(out, *code);
         out.text(", ");
         json::text(out, "words", &instruction(*code, undone));
         out.text("}");
     }
     out.text("]");
+}
+
+/// A code by Microsoft's name for it ("ARM64 exception handling", "Unwind codes"), with its register and its bytes where it has them. The
+/// three allocations, which differ in how many bytes spell them, have one name.
+fn code_as_json(out: &mut Out, code: Code) {
+    let (name, register, value) = match code {
+        Code::Alloc(size) => ("alloc", None, Some(("size", size))),
+        Code::R19R20X(offset) => ("save_r19r20_x", None, Some(("offset", offset))),
+        Code::Fplr(offset) => ("save_fplr", None, Some(("offset", offset))),
+        Code::FplrX(offset) => ("save_fplr_x", None, Some(("offset", offset))),
+        Code::Regp(n, offset) => ("save_regp", Some(('x', n)), Some(("offset", offset))),
+        Code::RegpX(n, offset) => ("save_regp_x", Some(('x', n)), Some(("offset", offset))),
+        Code::Reg(n, offset) => ("save_reg", Some(('x', n)), Some(("offset", offset))),
+        Code::RegX(n, offset) => ("save_reg_x", Some(('x', n)), Some(("offset", offset))),
+        Code::Lrpair(n, offset) => ("save_lrpair", Some(('x', n)), Some(("offset", offset))),
+        Code::Fregp(n, offset) => ("save_fregp", Some(('d', n)), Some(("offset", offset))),
+        Code::FregpX(n, offset) => ("save_fregp_x", Some(('d', n)), Some(("offset", offset))),
+        Code::Freg(n, offset) => ("save_freg", Some(('d', n)), Some(("offset", offset))),
+        Code::FregX(n, offset) => ("save_freg_x", Some(('d', n)), Some(("offset", offset))),
+        Code::SetFp => ("set_fp", None, None),
+        Code::AddFp(offset) => ("add_fp", None, Some(("offset", offset))),
+        Code::Nop => ("nop", None, None),
+        Code::SaveNext => ("save_next", None, None),
+        Code::PacSignLr => ("pac_sign_lr", None, None),
+    };
+    json::text(out, "code", name);
+    if let Some((letter, n)) = register {
+        out.text(", ");
+        json::text(out, "register", &format!("{letter}{n}"));
+    }
+    if let Some((key, value)) = value {
+        out.text(", ");
+        json::number(out, key, u64::from(value));
+    }
 }
 
 /// The instruction of a prologue that a code stands for, or the one of an epilogue that undoes it.

@@ -37,6 +37,7 @@ pub fn run(args: &Args) -> Result<bool, Stop> {
             "--word",
             "--address",
             "--base",
+            "--load-base",
             "--machine",
             "--relocations",
             "--linked",
@@ -93,13 +94,17 @@ fn first_failing(listing: &Listing<'_>) -> usize {
 }
 
 /// Every record at the last offset of its function: an answer there implies one at each other (law `Prefix` of the definitions), and no
-/// refusal depends on the register.
+/// refusal depends on the register. The library's check passes a record of length 0 whatever else it holds; here its header and its
+/// fields are to be readable. A relocation that could not be applied fails a record, too.
 pub fn causes(listing: &mut Listing<'_>, first: u64) -> Causes {
     let mut progress = Progress::new("checking", false);
     let mut causes = Causes::new();
-    let parts = listing.parts;
-    for (k, record) in parts.records.iter().enumerate().skip(first_failing(listing)) {
+    let (parts, failing, applied) = (listing.parts, first_failing(listing), listing.section.left.is_empty());
+    for (k, record) in parts.records.iter().enumerate() {
         progress.step(k as u64, parts.records.len() as u64);
+        if k < failing && applied && parts.frame.function(record.place).is_ok_and(|function| function.length != 0) {
+            continue;
+        }
         let Some(why) = refusal(listing, k) else { continue };
         let cause = causes.entry(why).or_default();
         cause.count += 1;
@@ -161,15 +166,14 @@ fn places_json(out: &mut Out, cause: &Cause) {
 }
 
 fn refusal(listing: &mut Listing<'_>, k: usize) -> Option<(u64, String)> {
-    let record = listing.record(k);
-    // A function without a byte has no offset to be read at.
-    if record.function.is_some_and(|function| function.length == 0) {
-        return None;
-    }
-    let found = match record.found {
+    let found = match listing.record(k).found {
         Ok(found) => found,
-        Err(fault) => return Some((fault.refusal.number, words::fault_cause(fault).to_string())),
+        Err(untold) => {
+            let (number, words) = words::untold_cause(untold);
+            return Some((number, words.to_string()));
+        }
     };
+    // A function without a byte has no offset to be read at.
     let last = found.located.length().checked_sub(1)?;
     let refusal = found.located.rules(0, last).err()?;
     let words = words::cause(refusal);
@@ -205,7 +209,11 @@ pub fn as_text(out: &mut Out, listing: &Listing<'_>, causes: &Causes) {
     }
     for ((number, words), cause) in causes {
         out.decimal(cause.count).text(if cause.count == 1 { " record" } else { " records" });
-        out.text(" refused with ").decimal(*number).text(": ").text(words).line();
+        match number {
+            0 => out.text(" not read: "),
+            number => out.text(" refused with ").decimal(*number).text(": "),
+        };
+        out.text(words).line();
         places_text(out, cause);
     }
 }

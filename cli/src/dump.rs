@@ -6,10 +6,10 @@ use std::ops::Range;
 use std::thread;
 
 use dekvoz::parts::{header, operations, record, Entry, Fault, Header, Operation};
-use dekvoz::{Frame, Located, Placed, Question, Record, Rule, Section as Kind, Word};
+use dekvoz::{Frame, Located, Placed, Question, Record, Rule, Section as Kind};
 
 use crate::args::Args;
-use crate::input::{End, File, Parts, Section};
+use crate::input::{fitted, End, File, Parts, Section};
 use crate::out::Out;
 use crate::progress::Progress;
 use crate::registers::Names;
@@ -18,6 +18,8 @@ use crate::{words, Stop};
 
 /// How many entries are listed in one go.
 const RUN: usize = 1024;
+/// The fields for a function's place and length stand so far behind a record's start, behind its length and its second field.
+const FUNCTION: u64 = 8;
 
 /// Lists the section of a file. Whether it is whole.
 pub fn run(args: &Args) -> Result<bool, Stop> {
@@ -29,42 +31,72 @@ pub fn run(args: &Args) -> Result<bool, Stop> {
             "--word",
             "--address",
             "--base",
+            "--load-base",
             "--machine",
             "--relocations",
             "--operations",
+            "--readelf",
             "--linked",
             "--json",
         ],
     )?;
     let base = args.number("--base")?.or(args.number("--address")?);
     let file = File::new(args)?;
+    if args.has("--readelf") {
+        return crate::readelf::run(args, &file);
+    }
     let section = file.section(args, base)?;
     let parts = Parts::new(&section);
     let mut out = Out::new();
     let mut listing = Listing::new(&section, &parts, args.has("--operations"));
-    if args.has("--json") {
+    let untold = if args.has("--json") {
         crate::listed::section(&mut out, &file, &mut listing);
+        listing.untold
     } else {
-        listing.text(&mut out);
-    }
+        listing.text(&mut out)
+    };
     crate::finished(&mut out)?;
-    Ok(match parts.complaint() {
-        Some(why) => {
-            crate::complain(&file.name, &why);
-            false
-        }
-        None => true,
-    })
+    Ok(whole(&file, &parts, untold))
+}
+
+/// Whether nothing was refused and the section is whole; says what is not.
+pub fn whole(file: &File, parts: &Parts<'_>, untold: u64) -> bool {
+    let complaint = parts.complaint();
+    if let Some(why) = &complaint {
+        crate::complain(&file.name, why);
+    }
+    if untold != 0 {
+        let entries = parts.entries.len();
+        crate::complain(&file.name, &format!("{untold} of {entries} entries are refused, as a whole or from some offset on"));
+    }
+    complaint.is_none() && untold == 0
+}
+
+/// Why an entry is not told.
+#[derive(Clone, Copy, Debug, PartialEq, Eq)]
+pub enum Untold {
+    /// The library refuses it.
+    Refused(Fault),
+    /// Its fields or operations hold relocations that could not be applied.
+    Relocations,
+}
+
+impl From<Fault> for Untold {
+    fn from(fault: Fault) -> Untold {
+        Untold::Refused(fault)
+    }
 }
 
 /// A section that is listed.
 pub struct Listing<'a> {
     pub section: &'a Section<'a>,
     pub parts: &'a Parts<'a>,
-    headers: HashMap<u64, Result<Header, Fault>>,
+    headers: HashMap<u64, Result<Header, Untold>>,
     /// The table of the entry that was listed last.
     pub table: Table,
     pub operations: bool,
+    /// How many entries were refused, as a whole or from some offset on.
+    pub untold: u64,
 }
 
 /// A record, as far as it can be read.
@@ -76,7 +108,7 @@ pub struct RecordView<'a> {
     /// Its function.
     pub function: Option<Placed>,
     /// What it says, or what is wrong with it.
-    pub found: Result<Found<'a>, Fault>,
+    pub found: Result<Found<'a>, Untold>,
 }
 
 /// A record that can be read.
@@ -94,7 +126,7 @@ pub struct Found<'a> {
 impl<'a> Listing<'a> {
     /// A section to list, with its operations or without.
     pub fn new(section: &'a Section<'a>, parts: &'a Parts<'a>, operations: bool) -> Listing<'a> {
-        Listing { section, parts, headers: HashMap::new(), table: Table::default(), operations }
+        Listing { section, parts, headers: HashMap::new(), table: Table::default(), operations, untold: 0 }
     }
 
     /// How many digits an address has.
@@ -104,11 +136,7 @@ impl<'a> Listing<'a> {
 
     /// An address as the word holds it.
     pub fn fitted(&self, address: u64) -> u64 {
-        match self.section.word {
-            Word::Eight => address,
-            Word::Four => address & 0xffff_ffff,
-            Word::Two => address & 0xffff,
-        }
+        fitted(address, self.section.word)
     }
 
     /// Makes the table of an entry.
@@ -117,9 +145,16 @@ impl<'a> Listing<'a> {
     }
 
     /// The header at a place.
-    pub fn header(&mut self, place: u64) -> Result<Header, Fault> {
+    pub fn header(&mut self, place: u64) -> Result<Header, Untold> {
         let (section, bytes) = (self.section, self.parts.frame.bytes);
-        self.headers.entry(place).or_insert_with(|| header(bytes, section.kind, section.word, place)).clone()
+        let read = || {
+            let fields = header(bytes, section.kind, section.word, place)?;
+            match section.left_in(fields.operations.clone()) {
+                true => Err(Untold::Relocations),
+                false => Ok(fields),
+            }
+        };
+        self.headers.entry(place).or_insert_with(read).clone()
     }
 
     /// The record of number k.
@@ -127,37 +162,46 @@ impl<'a> Listing<'a> {
         let frame = &self.parts.frame;
         let place = self.parts.records.get(k).copied().unwrap_or(Record { place: u64::MAX, header: None });
         let fields = record(frame.bytes, frame.kind, frame.word, 0, place.place);
+        let size = if frame.kind == Kind::Eh { 4 } else { frame.word.bytes() };
+        let at = place.place.saturating_add(FUNCTION);
+        let untold = self.section.left_in(at..at.saturating_add(2 * size));
         RecordView {
             second: fields.ok().map(|fields| fields.header),
             header: place.header,
-            function: frame.function(place.place).ok(),
+            function: self.parts.function(place.place).ok().filter(|_| !untold),
             found: self.found(place),
         }
     }
 
     /// Where 64 is the answer, the fields one by one say which of them is at fault.
-    fn found(&mut self, place: Record) -> Result<Found<'a>, Fault> {
+    fn found(&mut self, place: Record) -> Result<Found<'a>, Untold> {
         let frame = &self.parts.frame;
         let located = frame.locate_at(place);
+        let whole = |refusal| Untold::Refused(Fault { refusal, field: None });
         match (located, place.header) {
-            (Err(refusal), None) => Err(Fault { refusal, field: None }),
-            (Err(refusal), _) if refusal.asked() != Some(Question::Fields) => Err(Fault { refusal, field: None }),
+            (Err(refusal), None) => Err(whole(refusal)),
+            (Err(refusal), _) if refusal.asked() != Some(Question::Fields) => Err(whole(refusal)),
             (located, at) => {
                 let header = self.header(at.unwrap_or(u64::MAX))?;
                 let fields = record(frame.bytes, frame.kind, frame.word, header.pointer, place.place)?;
-                let located = located.map_err(|refusal| Fault { refusal, field: None })?;
+                let located = located.map_err(whole)?;
+                // The pointer to call sites is not told here.
+                let (first, rest) = (fields.call_sites.unwrap_or(fields.operations.start), fields.operations.clone());
+                if self.section.left_in(place.place..first) || self.section.left_in(rest) {
+                    return Err(Untold::Relocations);
+                }
                 let spans = Spans { header: header.operations.clone(), record: fields.operations };
                 Ok(Found { located, spans, header, call_sites: fields.call_sites })
             }
         }
     }
 
-    /// Every entry as text, a run of entries on each processor at a time.
-    pub fn text(&self, out: &mut Out) {
+    /// Every entry as text, a run of entries on each processor at a time. How many were refused, as a whole or from some offset on.
+    pub fn text(&self, out: &mut Out) -> u64 {
         let mut progress = Progress::new("listing", true);
         let parts = self.parts;
         let workers = thread::available_parallelism().map_or(1, NonZero::get);
-        let mut k = 0;
+        let (mut k, mut untold) = (0, 0);
         for wave in parts.entries.chunks(RUN * workers) {
             progress.step(wave.first().map_or(0, |entry| entry.place), parts.frame.bytes.len() as u64);
             thread::scope(|scope| {
@@ -167,8 +211,9 @@ impl<'a> Listing<'a> {
                     running.push(scope.spawn(move || self.run_text(run, first)));
                     k += run.iter().filter(|entry| !entry.header).count();
                 }
-                for listed in running.into_iter().filter_map(|run| run.join().ok()) {
+                for (listed, count) in running.into_iter().filter_map(|run| run.join().ok()) {
                     out.append(&listed);
+                    untold += count;
                 }
             });
             if out.failed() {
@@ -179,10 +224,11 @@ impl<'a> Listing<'a> {
         if let End::Terminator(at) | End::Behind(at, _) = parts.end {
             out.hex(at, 8).text(" ZERO terminator").line().line();
         }
+        untold
     }
 
     /// Some of the entries; k is the number of their first record.
-    fn run_text(&self, run: &[Entry], mut k: usize) -> Out {
+    fn run_text(&self, run: &[Entry], mut k: usize) -> (Out, u64) {
         let mut out = Out::gathering();
         let mut listing = Listing::new(self.section, self.parts, self.operations);
         for entry in run {
@@ -194,7 +240,7 @@ impl<'a> Listing<'a> {
             }
             out.line();
         }
-        out
+        (out, listing.untold)
     }
 
     fn front(&self, out: &mut Out, entry: &Entry, second: Option<u64>) {
@@ -209,9 +255,9 @@ impl<'a> Listing<'a> {
         self.front(out, entry, Some(if self.section.kind == Kind::Debug { 0xffff_ffff } else { 0 }));
         let fields = match self.header(entry.place) {
             Ok(fields) => fields,
-            Err(fault) => {
+            Err(untold) => {
                 out.text(" CIE").line();
-                return refused(out, fault);
+                return self.refused(out, untold);
             }
         };
         out.text(" CIE \"")
@@ -238,13 +284,16 @@ impl<'a> Listing<'a> {
             out.text(" pc=").hex(start, self.width()).text("..").hex(end, self.width());
         }
         out.text(" record ").decimal(k as u64);
+        if let Some((_, home)) = self.section.home(entry.place) {
+            out.text(", in ").text(home);
+        }
         if view.found.as_ref().is_ok_and(|found| found.located.long()) {
             out.text(", long spellings");
         }
         out.line();
         let found = match view.found {
             Ok(found) => found,
-            Err(fault) => return refused(out, fault),
+            Err(untold) => return self.refused(out, untold),
         };
         if self.operations {
             self.operations_text(out, found.spans.record.clone(), start);
@@ -310,13 +359,21 @@ impl<'a> Listing<'a> {
             };
         }
         out.line();
+        let mut told = true;
         for row in table.rows() {
             out.hex(self.fitted(start.wrapping_add(row.offset)), self.width()).text(" ");
             self.row_text(out, &row);
+            told &= row.said.is_ok();
         }
         if table.left_out != 0 {
             out.text("  and ").decimal(table.left_out as u64).text(" registers more").line();
         }
+        self.untold += u64::from(!told);
+    }
+
+    fn refused(&mut self, out: &mut Out, untold: Untold) {
+        out.text("  ").text(&words::untold(untold)).line();
+        self.untold += 1;
     }
 
     fn row_text(&self, out: &mut Out, row: &Row<'_>) {
@@ -356,10 +413,6 @@ fn rule_cell(out: &mut Out, names: &Names, rule: Rule) {
         Rule::InRegister(register) => out.text(&names.both(u64::from(register))),
         Rule::Saved(offset) => out.text("c").offset(offset),
     };
-}
-
-fn refused(out: &mut Out, fault: Fault) {
-    out.text("  ").text(&words::fault(fault)).line();
 }
 
 /// The augmentation string of a header, which the marks decide.

@@ -2,10 +2,10 @@
 
 use std::fs;
 
-use dekvoz::walk::{functions, recorded, Fault};
+use dekvoz::walk::{recorded, Fault};
 use dekvoz::{
     apply, call_site, relaxed_debug_frame, relaxed_table, row_check, Builder, Built, Format, FrameSection, Function, Machine,
-    Refusal, Section as Kind, Table, Word,
+    Refusal, Section as Kind, Table,
 };
 
 use crate::args::Args;
@@ -58,7 +58,7 @@ fn firmware() -> Vec<Code> {
     ]
 }
 
-/// stp x29, x30, [sp, #-bytes]!; mov x29, sp
+/// `stp x29, x30, [sp, #-bytes]!; mov x29, sp`
 fn frame(function: Builder, bytes: i32) -> Builder {
     function.at(4).def_cfa_offset(bytes).offset(FP, -bytes).offset(LR, 8 - bytes).at(8).def_cfa_register(FP)
 }
@@ -80,7 +80,7 @@ fn vector() -> Builder {
     Builder::new(FIRST + 3, 96).simple().signal().def_cfa(SP, 272).offset(FP, -40).offset(LR, -32)
 }
 
-/// paciasp; stp x29, x30, [sp, #-16]!; mov x29, sp; ..; ldp; autiasp; ret
+/// `paciasp; stp x29, x30, [sp, #-16]!; mov x29, sp; ..; ldp; autiasp; ret`
 fn report() -> Builder {
     Builder::new(FIRST + 4, 48)
         .at(4)
@@ -120,7 +120,7 @@ const REGISTERS: [(u16, u64); 3] = [(X19, 9), (FP, STACK_AT), (SP, STACK_AT)];
 /// Runs the example.
 pub fn run(args: &Args) -> Result<bool, Stop> {
     args.only("example", &["--html"])?;
-    if args.file.is_some() {
+    if args.file().is_some() {
         return Err(Stop::Usage(crate::args::Usage("example takes no file".to_string())));
     }
     let mut out = Out::new();
@@ -158,9 +158,7 @@ fn show(out: &mut Out, page: Option<&str>) -> Result<(), Stop> {
 }
 
 fn section(bytes: &[u8]) -> Section<'_> {
-    let names = Names::new(Some(registers::Machine::AArch64));
-    let (kind, word, relocations) = (Kind::Eh, Word::Eight, Vec::new());
-    Section { bytes, name: None, kind, word, address: SECTION, relocations, linked: false, names }
+    Section::raw(bytes, Kind::Eh, SECTION, Names::new(Some(registers::Machine::AArch64)))
 }
 
 /// The section as the linker leaves it.
@@ -192,7 +190,7 @@ fn chain(out: &mut Out, codes: &[Code], section: &Section<'_>, parts: &Parts<'_>
     out.text("\nOne day the device does not answer: sample traps, vector saves the registers and\n");
     out.text(&format!("calls report, which was stopped at {STOPPED:#x}. The walk over what was recorded says:\n\n"));
     let names = codes.iter().map(|code| (code.address, code.name.to_string())).collect();
-    let functions = Functions::new(functions(&parts.frame).map_err(failed)?, names);
+    let functions = Functions::new(parts.functions(), names);
     let record = record();
     let fault = Fault { machine: &Machine::AARCH64, record: &record, pc: STOPPED, stack: STACK_AT };
     let walked = walk::walked("the record of the example", &fault, section, &parts.frame, parts, &functions)?;

@@ -128,8 +128,17 @@ pub fn last(replay: &Replay) -> Option<Fact> {
 /// What is the library's answer, and what the command's.
 pub fn rests_on(replay: &Replay) -> &'static str {
     match replay.end {
-        End::Refused(..) => "unwind_walk refuses with this number and lists no frame; the frames and facts were replayed by its rules up to there.",
+        End::Refused(..) => "The chain is refused: unwind_walk answers with this number and lists no frame; the frames and facts above were replayed by its rules up to there.",
+        End::Nobody(..) if replay.steps.is_empty() => "unwind_walk lists no frame.",
         _ => "The frames are unwind_walk's; the facts were replayed by its rules, and give the same chain.",
+    }
+}
+
+/// Why a chain is not whole, in a few words.
+pub fn open(replay: &Replay) -> String {
+    match replay.end {
+        End::Nobody(pc, _) => format!("no function holds {pc:#x}"),
+        _ => "more than 64 frames".to_string(),
     }
 }
 

@@ -1,11 +1,12 @@
 //! `dekvoz handler`: which landing pad gets what is thrown at an offset.
 
 use dekvoz::parts::Header;
-use dekvoz::{call_site, Site, Word};
+use dekvoz::{call_site, Site};
 
 use crate::args::{Args, Usage};
 use crate::dump::Listing;
-use crate::input::{File, Parts, Section};
+use crate::input::{fitted, File, Parts, Section};
+use crate::object::{relocations, Object};
 use crate::out::Out;
 use crate::{json, words, Stop};
 
@@ -23,20 +24,7 @@ type Table<'a> = Option<(&'a [u8], u64)>;
 pub fn run(args: &Args) -> Result<bool, Stop> {
     args.only(
         "handler",
-        &[
-            "--section",
-            "--kind",
-            "--word",
-            "--address",
-            "--base",
-            "--machine",
-            "--relocations",
-            "--linked",
-            "--json",
-            "--record",
-            "--at",
-            "--place",
-        ],
+        &["--section", "--kind", "--word", "--machine", "--relocations", "--linked", "--json", "--record", "--at", "--place"],
     )?;
     let (record, place) = (args.number("--record")?, args.number("--place")?);
     let Some(offset) = args.number("--at")? else {
@@ -74,15 +62,18 @@ fn of_record<'a>(args: &Args, file: &'a File, k: u64) -> Result<Table<'a>, Stop>
             "raw bytes of a section do not hold the call sites; --place N reads a table of them",
         ));
     };
-    let section = file.section(args, args.number("--base")?.or(args.number("--address")?))?;
+    let section = file.section(args, None)?;
     let parts = Parts::new(&section);
     let mut listing = Listing::new(&section, &parts, false);
     let failed = |why: String| Stop::failed(&file.name, format!("record {k}: {why}"));
     if k >= parts.records.len() as u64 {
         return Err(failed(format!("there are {} records, counted from 0", parts.records.len())));
     }
-    let found = listing.record(k as usize).found.map_err(|fault| failed(words::fault(fault)))?;
+    let found = listing.record(k as usize).found.map_err(|untold| failed(words::untold(untold)))?;
     let Some(pointer) = found.call_sites else { return Ok(None) };
+    if object.relocatable {
+        return unlinked(file, object, &section, &found.header, pointer).map_err(failed);
+    }
     let Some(address) = pointed(&section, &parts, &found.header, pointer).map_err(failed)? else { return Ok(None) };
     for held in object.sections.iter().filter(|held| held.plain && held.address != 0) {
         let distance = address.wrapping_sub(held.address);
@@ -91,6 +82,40 @@ fn of_record<'a>(args: &Args, file: &'a File, k: u64) -> Result<Table<'a>, Stop>
         }
     }
     Err(failed(format!("its call sites are at {address:#x}, where no section stands")))
+}
+
+/// The table that a relocation of the pointer leads to, in a file that is not linked. A pointer without one is that of a record that has no
+/// table, where it is 0.
+fn unlinked<'a>(file: &'a File, object: &Object, section: &Section<'_>, header: &Header, at: u64) -> Result<Table<'a>, String> {
+    let field = section.bytes.get(at as usize..(at + header.pointer) as usize).unwrap_or(&[]);
+    let of_section = section.name.as_deref().and_then(|name| object.position(name));
+    let all = of_section.map_or_else(Vec::new, |position| relocations(&file.bytes, object, position));
+    let there: Vec<_> = all.iter().filter(|to| to.place == at).collect();
+    let to = match there[..] {
+        [] if field.iter().all(|byte| *byte == 0) => return Ok(None),
+        [to] if !section.left_in(at..at + 1) => to,
+        _ => return Err("it is not linked, and the relocation of its pointer to call sites could not be applied".to_string()),
+    };
+    let home = to.section.and_then(|home| Some((home, object.sections.get(home)?)));
+    let Some((home, held)) = home.filter(|(_, held)| held.plain && to.value < held.bytes.len() as u64) else {
+        return Err("its call sites stand in no section of this file".to_string());
+    };
+    let bytes = &file.bytes[held.bytes.clone()];
+    // The table's own numbers may be a linker's to fill in.
+    let table = to.value..to.value.saturating_add(extent(bytes, to.value));
+    match relocations(&file.bytes, object, home).iter().any(|to| table.contains(&to.place)) {
+        true => Err("it is not linked, and its table of call sites holds relocations".to_string()),
+        false => Ok(Some((bytes, to.value))),
+    }
+}
+
+/// How far a table of call sites reaches: three bytes, an unsigned LEB number, and as many bytes as it says.
+fn extent(bytes: &[u8], place: u64) -> u64 {
+    const HEAD: usize = 3;
+    let number = bytes.get(place as usize..).and_then(|table| table.get(HEAD..)).unwrap_or(&[]);
+    let size = number.iter().take_while(|byte| **byte >= 0x80).count() + 1;
+    let value = number.iter().take(size.min(9)).rev().fold(0u64, |n, byte| n << 7 | u64::from(*byte & 0x7f));
+    value.saturating_add((HEAD + size) as u64)
 }
 
 /// The address that a record's pointer to call sites means; none where it is 0. The encoding stands before that of the function's place,
@@ -110,7 +135,7 @@ fn pointed(section: &Section<'_>, parts: &Parts<'_>, header: &Header, at: u64) -
         PC_RELATIVE => section.address.wrapping_add(at).wrapping_add(signed),
         _ => return Err(format!("the encoding {encoding:#x} of its pointer to call sites is not read")),
     };
-    Ok(Some(if section.word == Word::Eight { address } else { address & 0xffff_ffff }))
+    Ok(Some(fitted(address, section.word)))
 }
 
 /// The answer: no table, no site that covers the offset, or one.

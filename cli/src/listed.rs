@@ -2,10 +2,10 @@
 
 use std::ops::Range;
 
-use dekvoz::parts::{operations, Entry, Fault, Operation};
-use dekvoz::Section as Kind;
+use dekvoz::parts::{operations, Entry, Operation};
+use dekvoz::{Refusal, Section as Kind};
 
-use crate::dump::{augmentation, header_alone, Listing};
+use crate::dump::{augmentation, header_alone, Listing, Untold};
 use crate::input::{File, Section};
 use crate::out::Out;
 use crate::table::Spans;
@@ -58,7 +58,7 @@ fn entry_text(out: &mut Out, listing: &mut Listing<'_>, entry: &Entry, k: usize)
     if entry.header {
         header(out, listing, entry);
     } else {
-        record(out, listing, k);
+        record(out, listing, k, entry.place);
     }
     out.text("}");
 }
@@ -66,7 +66,7 @@ fn entry_text(out: &mut Out, listing: &mut Listing<'_>, entry: &Entry, k: usize)
 fn header(out: &mut Out, listing: &mut Listing<'_>, entry: &Entry) {
     let fields = match listing.header(entry.place) {
         Ok(fields) => fields,
-        Err(fault) => return refused(out, fault),
+        Err(untold) => return refused(out, listing, untold),
     };
     out.text(", ");
     json::text(out, "augmentation", &augmentation(&fields, listing.section.kind));
@@ -79,7 +79,7 @@ fn header(out: &mut Out, listing: &mut Listing<'_>, entry: &Entry) {
     rows(out, listing, &spans, 0);
 }
 
-fn record(out: &mut Out, listing: &mut Listing<'_>, k: usize) {
+fn record(out: &mut Out, listing: &mut Listing<'_>, k: usize, place: u64) {
     let view = listing.record(k);
     out.text(", ");
     json::number(out, "record", k as u64);
@@ -94,8 +94,12 @@ fn record(out: &mut Out, listing: &mut Listing<'_>, k: usize) {
         out.text(", ");
         json::number(out, "size", function.length);
     }
+    if let Some((_, home)) = listing.section.home(place) {
+        out.text(", ");
+        json::text(out, "in", home);
+    }
     match view.found {
-        Err(fault) => refused(out, fault),
+        Err(untold) => refused(out, listing, untold),
         Ok(found) => {
             out.text(", ");
             json::mark(out, "long_spellings", found.located.long());
@@ -105,9 +109,11 @@ fn record(out: &mut Out, listing: &mut Listing<'_>, k: usize) {
     }
 }
 
-fn refused(out: &mut Out, fault: Fault) {
+fn refused(out: &mut Out, listing: &mut Listing<'_>, untold: Untold) {
+    let (number, words) = words::untold_cause(untold);
     out.text(", ");
-    json::refusal(out, fault.refusal, words::fault_cause(fault));
+    json::refusal(out, Refusal { number, position: 0 }, words);
+    listing.untold += 1;
 }
 
 fn listed_operations(out: &mut Out, listing: &Listing<'_>, range: Range<u64>) {
@@ -151,10 +157,12 @@ fn rows(out: &mut Out, listing: &mut Listing<'_>, spans: &Spans, start: u64) {
     listing.read_table(spans);
     let table = &listing.table;
     out.text(", \"rows\": [");
+    let mut told = true;
     for (n, row) in table.rows().enumerate() {
         out.text(if n == 0 { "{" } else { ", {" });
         json::address(out, "location", listing.fitted(start.wrapping_add(row.offset)));
         out.text(", ");
+        told &= row.said.is_ok();
         match row.said {
             Err(refusal) => json::refusal(out, refusal, words::cause(refusal)),
             Ok((frame, signing)) => {
@@ -171,4 +179,5 @@ fn rows(out: &mut Out, listing: &mut Listing<'_>, spans: &Spans, start: u64) {
         out.text("}");
     }
     out.text("]");
+    listing.untold += u64::from(!told);
 }

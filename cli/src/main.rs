@@ -13,15 +13,19 @@ mod handler;
 mod input;
 mod json;
 mod listed;
+mod missing;
 mod object;
 mod out;
 mod page;
 mod progress;
+mod readelf;
 mod recorded;
 mod registers;
+mod relocate;
 mod replay;
 mod rules;
 mod table;
+mod tie;
 mod walk;
 mod words;
 mod x64;
@@ -88,24 +92,55 @@ fn say(text: &str) -> Result<bool, Stop> {
     Ok(true)
 }
 
+/// The commands that take several files, one after the other.
+const OVER_FILES: [&str; 4] = ["dump", "check", "x64", "arm64"];
+
 fn run() -> Result<bool, Stop> {
     let words = std::env::args_os().skip(1).map(|word| word.to_string_lossy().into_owned());
     let args = Args::new(words)?;
-    if args.has("--help") {
+    let command = args.command.as_deref();
+    if args.has("--help") || command == Some("help") {
         return say(HELP);
     }
     if args.has("--version") {
         return say(concat!("dekvoz ", env!("CARGO_PKG_VERSION"), "\n"));
     }
+    match (command, args.files.get(1)) {
+        (Some(command), Some(_)) if OVER_FILES.contains(&command) => over_files(&args),
+        (_, Some(second)) => Err(Stop::Usage(Usage(format!("one file is taken, and `{second}` is one more word")))),
+        (_, None) => one(&args),
+    }
+}
+
+/// One file after the other, each under its name. Whether nothing is wrong with any.
+fn over_files(args: &Args) -> Result<bool, Stop> {
+    let mut good = true;
+    for (n, file) in args.files.iter().enumerate() {
+        if !args.has("--json") {
+            say(&format!("{}{file}:\n", if n == 0 { "" } else { "\n" }))?;
+        }
+        match one(&args.of_file(file)) {
+            Ok(whole) => good &= whole,
+            Err(Stop::Failed(name, why)) => {
+                complain(&name, &why);
+                good = false;
+            }
+            Err(stop) => return Err(stop),
+        }
+    }
+    Ok(good)
+}
+
+fn one(args: &Args) -> Result<bool, Stop> {
     match args.command.as_deref() {
-        Some("example") => example::run(&args),
-        Some("dump") => dump::run(&args),
-        Some("rules") => rules::run(&args),
-        Some("check") => check::run(&args),
-        Some("handler") => handler::run(&args),
-        Some("walk") => walk::run(&args),
-        Some("x64") => x64::run(&args),
-        Some("arm64") => arm64::run(&args),
+        Some("example") => example::run(args),
+        Some("dump") => dump::run(args),
+        Some("rules") => rules::run(args),
+        Some("check") => check::run(args),
+        Some("handler") => handler::run(args),
+        Some("walk") => walk::run(args),
+        Some("x64") => x64::run(args),
+        Some("arm64") => arm64::run(args),
         Some(other) => Err(Stop::Usage(Usage(format!("there is no command `{other}`")))),
         None => Err(Stop::Usage(Usage("a command is asked for".to_string()))),
     }

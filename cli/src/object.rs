@@ -7,6 +7,8 @@ pub struct Section {
     pub name: String,
     /// The address of its first byte, 0 in a file that is not linked.
     pub address: u64,
+    /// The bytes that it takes in memory.
+    pub size: u64,
     /// Where its bytes stand in the file; empty where the file has none of them.
     pub bytes: std::ops::Range<usize>,
     /// Whether the bytes are there, and not compressed.
@@ -27,8 +29,41 @@ pub struct Object {
     pub machine: u64,
     /// Whether it is still to be linked.
     pub relocatable: bool,
+    /// Whether it can be loaded anywhere.
+    pub movable: bool,
+    /// What is loaded, in the file's order.
+    pub segments: Vec<Segment>,
 }
 
+/// A part of a file that is loaded (gABI, "Program Header").
+#[derive(Clone, Copy, Debug)]
+pub struct Segment {
+    /// The address of its first byte.
+    pub address: u64,
+    /// The bytes that it takes in memory.
+    pub size: u64,
+}
+
+impl Object {
+    /// The address where the file's first page is loaded as it was linked.
+    pub fn first_page(&self) -> Option<u64> {
+        let first = self.segments.iter().map(|segment| segment.address).min()?;
+        Some(first - first % PAGE)
+    }
+
+    /// The position of the section of a name.
+    pub fn position(&self, name: &str) -> Option<usize> {
+        self.sections.iter().position(|section| section.name == name)
+    }
+}
+
+/// What the pages of a program start at is a multiple of this.
+const PAGE: u64 = 4096;
+const PT_LOAD: u64 = 1;
+const SHT_NOTE: u64 = 7;
+/// The note of a build id: its type, and the length of its name and the name (binutils, "--build-id").
+const NT_GNU_BUILD_ID: u64 = 3;
+const GNU: &[u8] = b"GNU\0";
 const SHT_SYMTAB: u64 = 2;
 const SHT_DYNSYM: u64 = 11;
 const STT_FUNC: u64 = 2;
@@ -37,6 +72,7 @@ const SHT_REL: u64 = 9;
 const SHT_NOBITS: u64 = 8;
 const SHF_COMPRESSED: u64 = 0x800;
 const ET_REL: u64 = 1;
+const ET_DYN: u64 = 3;
 /// A count or an index that stands in the first section's header instead.
 const SHN_XINDEX: u64 = 0xffff;
 
@@ -99,8 +135,10 @@ fn elf_sections(bytes: &[u8], wide: bool) -> Option<Object> {
     let word = if wide { 8 } else { 4 };
     let table = usize::try_from(field(bytes, table_at, word)?).ok()?;
     let (size, count, names) = (field(bytes, counts, 2)?, field(bytes, counts + 2, 2)?, field(bytes, counts + 4, 2)?);
+    let (kind, machine) = (field(bytes, 16, 2)?, field(bytes, 18, 2)?);
     let object = |sections| {
-        Some(Object { sections, word: word as u64, machine: field(bytes, 18, 2)?, relocatable: field(bytes, 16, 2)? == ET_REL })
+        let (relocatable, movable, segments) = (kind == ET_REL, kind == ET_DYN, segments(bytes, wide));
+        Some(Object { sections, word: word as u64, machine, relocatable, movable, segments })
     };
     if table == 0 {
         return object(Vec::new());
@@ -121,6 +159,7 @@ fn elf_sections(bytes: &[u8], wide: bool) -> Option<Object> {
         sections.push(Section {
             name: name(strings, usize::try_from(title).ok()?),
             address,
+            size,
             plain: held.is_some(),
             bytes: held.unwrap_or(0..0),
             kind,
@@ -131,34 +170,85 @@ fn elf_sections(bytes: &[u8], wide: bool) -> Option<Object> {
     object(sections)
 }
 
-/// The relocations of an unlinked ELF file's section that refer to the section itself, as (place, addend).
-pub fn own_relocations(bytes: &[u8], object: &Object, section: usize) -> Vec<(u64, u64)> {
-    let lists = object.sections.iter().filter(|list| matches!(list.kind, SHT_RELA | SHT_REL) && list.info == section as u64);
-    lists.flat_map(|list| own_of(bytes, object, list, section).unwrap_or_default()).collect()
+/// What a file's program headers load; none where there are no such headers.
+fn segments(bytes: &[u8], wide: bool) -> Vec<Segment> {
+    let (word, table_at, counts) = if wide { (8, 32, 54) } else { (4, 28, 42) };
+    let head = || Some((field(bytes, table_at, word)?, field(bytes, counts, 2)?, field(bytes, counts + 2, 2)?));
+    let Some((table, size, count)) = head() else { return Vec::new() };
+    let one = |n: u64| {
+        let at = usize::try_from(table.checked_add(n.checked_mul(size)?)?).ok()?;
+        at.checked_add(64)?;
+        // Of 64 bits the flags stand behind the type.
+        let (address, held) = if wide { (at + 16, at + 40) } else { (at + 8, at + 20) };
+        let (kind, address, size) = (field(bytes, at, 4)?, field(bytes, address, word)?, field(bytes, held, word)?);
+        (kind == PT_LOAD).then_some(Segment { address, size })
+    };
+    (0..count).filter_map(one).collect()
 }
 
-fn own_of(bytes: &[u8], object: &Object, list: &Section, section: usize) -> Option<Vec<(u64, u64)>> {
-    let symbols = bytes.get(object.sections.get(usize::try_from(list.link).ok()?)?.bytes.clone())?;
-    let held = bytes.get(object.sections.get(section)?.bytes.clone())?;
+/// The build id of an ELF file, as hexadecimal digits.
+pub fn build_id(bytes: &[u8], object: &Object) -> Option<String> {
+    let notes = object.sections.iter().filter(|section| section.kind == SHT_NOTE && section.plain);
+    notes.filter_map(|section| bytes.get(section.bytes.clone())).find_map(id_of)
+}
+
+/// The build id in a section of notes: each has three lengths and numbers of 4 bytes, a name and a text, both filled up to 4 bytes.
+fn id_of(notes: &[u8]) -> Option<String> {
+    let mut at = 0usize;
+    loop {
+        let (name, text, kind) = (field(notes, at, 4)?, field(notes, at + 4, 4)?, field(notes, at + 8, 4)?);
+        let named = range(notes, at as u64 + 12, name)?;
+        let held = range(notes, (named.end as u64).next_multiple_of(4), text)?;
+        if kind == NT_GNU_BUILD_ID && &notes[named] == GNU {
+            return Some(notes[held].iter().map(|byte| format!("{byte:02x}")).collect());
+        }
+        at = held.end.next_multiple_of(4);
+    }
+}
+
+/// A relocation of an unlinked ELF file.
+#[derive(Clone, Copy, Debug)]
+pub struct Relocated {
+    /// Where its field stands in the section.
+    pub place: u64,
+    /// Its type, by the machine.
+    pub kind: u64,
+    /// The section that its symbol stands in; none where it stands in no section of this file.
+    pub section: Option<usize>,
+    /// The symbol's value and the addend: an address counted from the symbol's section.
+    pub value: u64,
+}
+
+/// The relocations of an unlinked ELF file's section.
+pub fn relocations(bytes: &[u8], object: &Object, section: usize) -> Vec<Relocated> {
+    let lists = object.sections.iter().filter(|list| matches!(list.kind, SHT_RELA | SHT_REL) && list.info == section as u64);
+    lists.flat_map(|list| relocated(bytes, object, list, section)).collect()
+}
+
+fn relocated(bytes: &[u8], object: &Object, list: &Section, section: usize) -> Vec<Relocated> {
+    let of = |section: &Section| bytes.get(section.bytes.clone()).unwrap_or(&[]);
+    let symbols = usize::try_from(list.link).ok().and_then(|link| object.sections.get(link)).map_or(&[][..], of);
+    let held = object.sections.get(section).map_or(&[][..], of);
     let wide = object.word == 8;
     let word = if wide { 8 } else { 4 };
     let size = if list.kind == SHT_RELA { 3 * word } else { 2 * word };
-    let mut found = Vec::new();
-    for entry in bytes.get(list.bytes.clone())?.chunks_exact(size) {
+    let one = |entry: &[u8]| {
         let (place, info) = (field(entry, 0, word)?, field(entry, word, word)?);
-        // Without a field of its own the addend stands where it is to be added.
+        let (symbol, kind) = if wide { (info >> 32, info & 0xffff_ffff) } else { (info >> 8, info & 0xff) };
+        // Without a field of its own the addend stands where it is to be added; there a field is one of 4 bytes.
         let addend = match list.kind {
             SHT_RELA => field(entry, 2 * word, word)?,
-            _ => field(held, usize::try_from(place).ok()?, 4)?,
+            _ => field(held, usize::try_from(place).ok()?, 4).unwrap_or(0),
         };
-        let symbol = usize::try_from(if wide { info >> 32 } else { info >> 8 }).ok()?;
         // A symbol's section and value (gABI, "Symbol Table").
+        let symbol = usize::try_from(symbol).ok()?;
         let (at, value) = if wide { (24 * symbol + 6, 24 * symbol + 8) } else { (16 * symbol + 14, 16 * symbol + 4) };
-        if field(symbols, at, 2) == Some(section as u64) {
-            found.push((place, addend.wrapping_add(field(symbols, value, word)?)));
-        }
-    }
-    Some(found)
+        let home = field(symbols, at, 2).and_then(|n| usize::try_from(n).ok());
+        let section = home.filter(|home| *home != 0 && *home < object.sections.len());
+        let value = field(symbols, value, word).unwrap_or(0).wrapping_add(addend);
+        Some(Relocated { place, kind, section, value })
+    };
+    of(list).chunks_exact(size).filter_map(one).collect()
 }
 
 /// The names of an ELF file's functions by their addresses (gABI, "Symbol Table"): of those in .symtab, or else in .dynsym. Of two names
@@ -235,8 +325,9 @@ pub fn coff(bytes: &[u8]) -> Option<Coff> {
         let size = if image { stored.min(loaded) } else { stored };
         let held = range(bytes, field(header, 20, 4)?, size);
         sections.push(Section {
-            name: name(&header[..8], 0),
+            name: section_name(bytes, &header[..8], strings),
             address: field(header, 12, 4)?,
+            size,
             plain: held.is_some(),
             bytes: held.unwrap_or(0..0),
             kind: 0,
@@ -245,6 +336,24 @@ pub fn coff(bytes: &[u8]) -> Option<Coff> {
         });
     }
     Some(Coff { machine, image, sections, symbols, strings, count: symbol_count })
+}
+
+/// A section's name; a long one is a `/` and, as decimal digits, its place among the strings.
+fn section_name(bytes: &[u8], field: &[u8], strings: usize) -> String {
+    let short = name(field, 0);
+    let place = short.strip_prefix('/').and_then(|digits| digits.parse::<usize>().ok());
+    match place.and_then(|place| strings.checked_add(place)).map(|at| name(bytes, at)) {
+        Some(long) if !long.is_empty() => long,
+        _ => short,
+    }
+}
+
+impl Section {
+    /// Whether it has this name, or is a part of the section of this name: objects can have one for each function.
+    pub fn is_part(&self, name: &str) -> bool {
+        let rest = self.name.strip_prefix(name);
+        self.plain && rest.is_some_and(|rest| rest.is_empty() || rest.starts_with(['$', '.']))
+    }
 }
 
 /// A symbol of a COFF object.

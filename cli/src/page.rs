@@ -9,7 +9,7 @@ use crate::digest::sha256;
 use crate::facts::{self, Fact};
 use crate::grounds::{Ground, Origin};
 use crate::input::File;
-use crate::replay::{End, Step};
+use crate::replay::{End, Step, Verdict};
 use crate::walk::{title, Walked};
 use crate::words;
 
@@ -74,6 +74,9 @@ fn inputs(page: &mut String, file: &File, walked: &Walked<'_>) {
     let table = format!("{}: {}, {} bytes", escaped(&file.name), escaped(section), walked.section.bytes.len());
     row(page, "Unwind table", &table);
     row(page, "", &format!("SHA-256 of the file <code>{}</code>", sha256(&file.bytes)));
+    if let Some(tie) = &walked.tie {
+        row(page, "", &escaped(&tie.words()));
+    }
     row(page, "Functions", &format!("{}, each with its record of the table", walked.functions.placed.len()));
     let names = &walked.section.names;
     let (stack, back) = (u64::from(walked.machine.stack_pointer), u64::from(walked.machine.return_address));
@@ -86,36 +89,61 @@ fn inputs(page: &mut String, file: &File, walked: &Walked<'_>) {
 }
 
 fn result(page: &mut String, walked: &Walked<'_>) {
-    let class = if walked.said.is_ok() { "good" } else { "bad" };
     let count = walked.replay.steps.len();
     let frames = if count == 1 { "1 frame".to_string() } else { format!("{count} frames") };
-    let answer = if walked.said.is_ok() { frames } else { "No chain".to_string() };
-    put!(page, "<p class=\"result {class}\"><strong>{answer}.</strong> {}</p>\n", escaped(&facts::end(&walked.replay)));
-}
-
-fn chain(page: &mut String, walked: &Walked<'_>) {
+    // Green is only a chain that ended where its rules say that it ends.
+    let (class, answer) = match (walked.replay.verdict(), count) {
+        (Verdict::Whole, _) => ("good", format!("{frames}, a whole chain")),
+        (Verdict::Open, 0) => ("open", "No chain".to_string()),
+        (Verdict::Open, _) => ("open", format!("{frames}, and then it is not known")),
+        (Verdict::Refused, _) => ("bad", format!("Refused at frame #{}", count.saturating_sub(1))),
+    };
+    let missing = walked.missing.as_deref().map_or_else(String::new, |words| format!(" {}", escaped(words)));
     put!(
         page,
-        "<h2>The chain</h2>\n<table class=\"chain\">\n<thead><tr><th>Frame</th><th>Function</th><th>pc, or return address</th>"
+        "<p class=\"result {class}\"><strong>{answer}.</strong> {}{missing}</p>\n",
+        escaped(&facts::end(&walked.replay))
     );
-    put!(page, "<th>Looked up at</th><th>CFA</th><th>Return address read at</th><th>Returns to</th></tr></thead>\n<tbody>\n");
+}
+
+/// The columns of the chain.
+const CHAIN: [&str; 7] =
+    ["Frame", "Function", "pc, or return address", "Looked up at", "CFA", "Return address read at", "Returns to"];
+
+fn chain(page: &mut String, walked: &Walked<'_>) {
+    put!(page, "<h2>The chain</h2>\n<table class=\"chain\">\n<thead><tr>");
+    CHAIN.iter().for_each(|name| put_cell(page, "th", "", name));
+    put!(page, "</tr></thead>\n<tbody>\n");
     for (n, step) in walked.replay.steps.iter().enumerate() {
-        put!(page, "<tr><td class=\"f{}\"><a href=\"#frame-{n}\">#{n}</a></td>", n % COLOURS);
         let signal = if step.signal { " <span class=\"mark\">signal frame</span>" } else { "" };
-        put!(page, "<td>{}{signal}</td>", escaped(&title(walked.functions, step)));
-        put!(page, "<td><code>{:#x}</code></td><td><code>{:#x}</code></td>", step.pc, step.asked);
-        put!(page, "<td>{}</td>", step.cfa.as_ref().map_or_else(String::new, |cfa| format!("<code>{:#x}</code>", cfa.address)));
         let slot = step.registers.iter().find(|register| register.number == walked.machine.return_address);
-        let slot = slot.and_then(|register| register.slot);
-        put!(page, "<td>{}</td>", slot.map_or_else(String::new, slot_link));
         let to = match (&step.back, &walked.replay.end) {
             (Some(back), _) => format!("<code>{:#x}</code>", back.pc),
             (None, End::Undefined) => "nowhere".to_string(),
             (None, _) => "<span class=\"no\">refused</span>".to_string(),
         };
-        put!(page, "<td>{to}</td></tr>\n");
+        let cells = [
+            format!("<a href=\"#frame-{n}\">#{n}</a>"),
+            format!("{}{signal}", escaped(&title(walked.functions, step))),
+            format!("<code>{:#x}</code>", step.pc),
+            format!("<code>{:#x}</code>", step.asked),
+            step.cfa.as_ref().map_or_else(String::new, |cfa| format!("<code>{:#x}</code>", cfa.address)),
+            slot.and_then(|register| register.slot).map_or_else(String::new, slot_link),
+            to,
+        ];
+        put!(page, "<tr>");
+        for (i, (name, cell)) in CHAIN.iter().zip(&cells).enumerate() {
+            let colour = if i == 0 { format!(" class=\"f{}\"", n % COLOURS) } else { String::new() };
+            // On a narrow screen the cells stand below one another, each behind its column's name.
+            put_cell(page, "td", &format!("{colour} data-of=\"{name}\""), cell);
+        }
+        put!(page, "</tr>\n");
     }
     put!(page, "</tbody>\n</table>\n");
+}
+
+fn put_cell(page: &mut String, tag: &str, attributes: &str, text: &str) {
+    put!(page, "<{tag}{attributes}>{text}</{tag}>");
 }
 
 fn slot_link(slot: u64) -> String {
@@ -177,7 +205,7 @@ fn rows(page: &mut String, walked: &Walked<'_>, n: usize, step: &Step, said: &[F
     put!(page, "<thead><tr><th>Place</th><th>In</th><th>From offset</th><th>Operation</th></tr></thead>\n<tbody>\n");
     let mut offset = 0;
     for (range, part) in [(header, "header"), (record, "record")] {
-        for found in operations(walked.section.bytes, range.clone(), walked.section.word).map_while(Result::ok) {
+        for found in operations(&walked.section.bytes, range.clone(), walked.section.word).map_while(Result::ok) {
             match found.operation {
                 dekvoz::parts::Operation::Nop => continue,
                 dekvoz::parts::Operation::Step(by) => offset += by,

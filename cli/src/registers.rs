@@ -11,19 +11,25 @@ pub enum Machine {
     RiscV,
     /// ARM (DWARF for the Arm Architecture, section 4.1).
     Arm,
+    /// i386 (System V psABI, table 2.14).
+    I386,
 }
 
 const X86_64: [&str; 16] =
     ["rax", "rdx", "rcx", "rbx", "rsi", "rdi", "rbp", "rsp", "r8", "r9", "r10", "r11", "r12", "r13", "r14", "r15"];
-const RISC_V: [&str; 32] = [
+const RISC_V: [&str; 64] = [
     "zero", "ra", "sp", "gp", "tp", "t0", "t1", "t2", "s0", "s1", "a0", "a1", "a2", "a3", "a4", "a5", "a6", "a7", "s2", "s3",
-    "s4", "s5", "s6", "s7", "s8", "s9", "s10", "s11", "t3", "t4", "t5", "t6",
+    "s4", "s5", "s6", "s7", "s8", "s9", "s10", "s11", "t3", "t4", "t5", "t6", "ft0", "ft1", "ft2", "ft3", "ft4", "ft5", "ft6",
+    "ft7", "fs0", "fs1", "fa0", "fa1", "fa2", "fa3", "fa4", "fa5", "fa6", "fa7", "fs2", "fs3", "fs4", "fs5", "fs6", "fs7",
+    "fs8", "fs9", "fs10", "fs11", "ft8", "ft9", "ft10", "ft11",
 ];
+const I386: [&str; 10] = ["eax", "ecx", "edx", "ebx", "esp", "ebp", "esi", "edi", "eip", "eflags"];
 
 impl Machine {
     /// The machine of an ELF file (e_machine).
     pub fn of_elf(number: u64) -> Option<Machine> {
         Some(match number {
+            3 => Machine::I386,
             62 => Machine::X86_64,
             183 => Machine::AArch64,
             243 => Machine::RiscV,
@@ -39,6 +45,7 @@ impl Machine {
             "aarch64" => Machine::AArch64,
             "riscv" => Machine::RiscV,
             "arm" => Machine::Arm,
+            "i386" => Machine::I386,
             _ => return None,
         })
     }
@@ -57,8 +64,11 @@ impl Machine {
             (Machine::AArch64, 31) => Some("sp".to_string()),
             (Machine::AArch64, 33) => Some("elr".to_string()),
             (Machine::AArch64, 64..=95) => Some(format!("v{}", n - 64)),
-            (Machine::RiscV, 0..=31) => Some(RISC_V[n].to_string()),
-            (Machine::RiscV, 32..=63) => Some(format!("f{}", n - 32)),
+            (Machine::RiscV, 0..=63) => Some(RISC_V[n].to_string()),
+            (Machine::I386, 0..=9) => Some(I386[n].to_string()),
+            (Machine::I386, 11..=18) => Some(format!("st{}", n - 11)),
+            (Machine::I386, 21..=28) => Some(format!("xmm{}", n - 21)),
+            (Machine::I386, 29..=36) => Some(format!("mm{}", n - 29)),
             (Machine::Arm, 0..=12) => Some(format!("r{n}")),
             (Machine::Arm, 13) => Some("sp".to_string()),
             (Machine::Arm, 14) => Some("lr".to_string()),

@@ -90,6 +90,17 @@ pub enum End {
     Other,
 }
 
+/// What a chain is worth.
+#[derive(Clone, Copy, Debug, PartialEq, Eq)]
+pub enum Verdict {
+    /// It ended where its rules say that it ends.
+    Whole,
+    /// No function holds an address, or more frames follow than are followed.
+    Open,
+    /// A frame was refused.
+    Refused,
+}
+
 /// The frames and how they ended.
 pub struct Replay {
     pub steps: Vec<Step>,
@@ -120,6 +131,15 @@ impl Replay {
                 Ok((next, after)) => (pc, values) = (next, after),
                 Err(end) => return Replay { steps, end },
             }
+        }
+    }
+
+    /// What the chain is worth.
+    pub fn verdict(&self) -> Verdict {
+        match self.end {
+            End::Undefined => Verdict::Whole,
+            End::Nobody(..) | End::TooMany => Verdict::Open,
+            End::Refused(..) | End::Other => Verdict::Refused,
         }
     }
 

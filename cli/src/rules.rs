@@ -4,7 +4,7 @@ use dekvoz::{AllRules, Frame, Placed, Rule};
 
 use crate::args::{Args, Usage};
 use crate::dump::{Found, Listing};
-use crate::input::{File, Parts, Section};
+use crate::input::{File, Parts, Section, EH_FRAME};
 use crate::listed::about;
 use crate::out::Out;
 use crate::{json, words, Stop};
@@ -27,6 +27,7 @@ pub fn run(args: &Args) -> Result<bool, Stop> {
             "--word",
             "--address",
             "--base",
+            "--load-base",
             "--machine",
             "--relocations",
             "--linked",
@@ -47,16 +48,25 @@ pub fn run(args: &Args) -> Result<bool, Stop> {
             "it is not linked, and its functions have no addresses; ask by --record K and --at P",
         ));
     }
-    let section = file.section(args, args.number("--base")?)?;
-    let register = match args.value("--register") {
-        None => None,
-        Some(text) => Some(section.names.register(text).ok_or_else(|| {
-            Usage(format!("--register: `{text}` is neither a number to 65535 nor a register of the machine"))
-        })?),
-    };
-    let parts = Parts::new(&section);
-    let place = place(&section, &parts, asked).map_err(|why| Stop::failed(&file.name, why))?;
-    answer(args, &file, &section, &place, register)
+    // One record is asked for in one section; an address, in each that there is.
+    let mut sections = file.sections(args, args.number("--base")?)?;
+    sections.truncate(if asked.0.is_some() { sections.len() } else { 1 });
+    let mut why = Vec::new();
+    for section in &sections {
+        let parts = Parts::new(section);
+        match place(section, &parts, asked) {
+            Ok(place) => return answer(args, &file, section, &place, register(args, section)?),
+            Err(none) => why.push(none),
+        }
+    }
+    Err(Stop::failed(&file.name, why.join("; ")))
+}
+
+/// The register that is asked for.
+fn register(args: &Args, section: &Section<'_>) -> Result<Option<u16>, Usage> {
+    let Some(text) = args.value("--register") else { return Ok(None) };
+    let none = || Usage(format!("--register: `{text}` is neither a number to 65535 nor a register of the machine"));
+    section.names.register(text).map(Some).ok_or_else(none)
 }
 
 fn place<'a>(
@@ -64,19 +74,20 @@ fn place<'a>(
     parts: &'a Parts<'a>,
     asked: (Option<u64>, Option<u64>, Option<u64>),
 ) -> Result<Place<'a>, String> {
+    let of = section.name.as_ref().map_or_else(String::new, |name| format!(" of {name}"));
     let damage = || parts.complaint().map_or_else(String::new, |why| format!("; {why}"));
     let k = match asked {
-        (Some(pc), ..) => match parts.frame.at(pc) {
+        (Some(pc), ..) => match parts.holder(pc) {
             Ok(holder) => holder.k,
-            Err(_) => return Err(format!("no record's function holds {pc:#x}{}", damage())),
+            Err(_) => return Err(format!("no record's function{of} holds {pc:#x}{}", damage())),
         },
         (None, k, _) => k.unwrap_or(0),
     };
     if k >= parts.records.len() as u64 {
-        return Err(format!("there are {} records, counted from 0, and no record {k}{}", parts.records.len(), damage()));
+        return Err(format!("there are {} records{of}, counted from 0, and no record {k}{}", parts.records.len(), damage()));
     }
     let view = Listing::new(section, parts, false).record(k as usize);
-    let found = view.found.map_err(|fault| format!("record {k}: {}", words::fault(fault)))?;
+    let found = view.found.map_err(|untold| format!("record {k}{of}: {}", words::untold(untold)))?;
     let offset = match (asked, view.function) {
         ((Some(pc), ..), Some(function)) => pc.wrapping_sub(function.address),
         ((_, _, p), _) => p.unwrap_or(0),
@@ -112,6 +123,9 @@ fn answer(args: &Args, file: &File, section: &Section<'_>, place: &Place<'_>, re
 fn as_text(out: &mut Out, section: &Section<'_>, place: &Place<'_>, said: &AllRules) {
     let names = &section.names;
     out.text("record ").decimal(place.record);
+    if let Some(name) = section.name.as_ref().filter(|name| *name != EH_FRAME) {
+        out.text(" of ").text(name);
+    }
     if let Some(Placed { address: start, length }) = place.function {
         out.text(", pc=0x").hex(start, 1).text("..0x").hex(start.wrapping_add(length), 1);
         out.text(", at 0x").hex(start.wrapping_add(place.offset), 1);

@@ -1,20 +1,23 @@
 //! `dekvoz walk`: the chain of callers of a recorded fault, with the ground on which each is one.
 
+use std::collections::BTreeMap;
 use std::fs;
 
-use dekvoz::walk::{functions, walk, Chain, Fault};
+use dekvoz::walk::{walk, Chain, Fault};
 use dekvoz::{FrameSection, Machine, Placed, Question, Refusal, Relocation, Section as Kind};
 
 use crate::args::{Args, Usage};
+use crate::dump::{Listing, Untold};
 use crate::facts::{self, Fact};
 use crate::grounds::{Ground, Origin};
-use crate::input::{File, Parts, Section};
+use crate::input::{fitted, File, Parts, Section};
 use crate::listed::about;
 use crate::out::Out;
 use crate::recorded::Recorded;
 use crate::registers::{self, Names};
-use crate::replay::{self, Replay, Step};
-use crate::{json, object, page, words, Stop};
+use crate::replay::{self, Replay, Step, Verdict};
+use crate::tie::{self, Tie};
+use crate::{json, missing, object, page, words, Stop};
 
 /// The column of what a fact is about.
 const ABOUT: usize = 11;
@@ -50,6 +53,10 @@ pub struct Walked<'a> {
     pub functions: &'a Functions,
     pub said: Result<Chain, Refusal>,
     pub replay: Replay,
+    /// Whether the record is of this program, where that was asked.
+    pub tie: Option<Tie>,
+    /// Where no function holds an address: which module or option may be missing.
+    pub missing: Option<String>,
 }
 
 /// Walks the fault that the options name.
@@ -60,6 +67,7 @@ pub fn run(args: &Args) -> Result<bool, Stop> {
             "--section",
             "--kind",
             "--base",
+            "--load-base",
             "--machine",
             "--relocations",
             "--linked",
@@ -68,6 +76,7 @@ pub fn run(args: &Args) -> Result<bool, Stop> {
             "--pc",
             "--stack",
             "--functions",
+            "--build-id",
             "--html",
         ],
     )?;
@@ -76,6 +85,7 @@ pub fn run(args: &Args) -> Result<bool, Stop> {
     };
     let file = File::new(args)?;
     let record = fs::read(path).map_err(|error| Stop::failed(path, error))?;
+    let tie = tie::of(args, path, &file)?;
     let section = file.section(args, args.number("--base")?)?;
     let machine = machine(args, &file)?;
     // An ELF file says its word; raw bytes have the machine's.
@@ -84,11 +94,14 @@ pub fn run(args: &Args) -> Result<bool, Stop> {
     if let Some(why) = parts.complaint() {
         return Err(Stop::failed(&file.name, why));
     }
+    readable(&file, &section, &parts)?;
     let relocations = related(&section, &parts);
     let frame = FrameSection { relocations: &relocations, ..parts.frame };
-    let functions = listed(args, &file, &frame, file.section(args, None)?.address)?;
+    let functions = listed(args, &file, &section, &parts)?;
     let fault = Fault { machine: &machine, record: &record, pc, stack };
     let walked = walked(path, &fault, &section, &frame, &parts, &functions)?;
+    let missing = missing::words(args, &file, &section, &walked.replay);
+    let walked = Walked { tie: Some(tie), missing, ..walked };
     if let Some(page) = args.value("--html") {
         fs::write(page, page::text(&file, &walked)).map_err(|error| Stop::failed(page, error))?;
     }
@@ -98,11 +111,28 @@ pub fn run(args: &Args) -> Result<bool, Stop> {
         false => as_text(&mut out, &file, &walked),
     }
     crate::finished(&mut out)?;
-    if let Err(refusal) = &walked.said {
-        let frame = walked.replay.steps.len().saturating_sub(1);
-        crate::complain(path, &format!("frame #{frame}: {}", words::refused(*refusal)));
+    match (&walked.said, walked.replay.verdict()) {
+        (Err(refusal), _) => {
+            let frame = walked.replay.steps.len().saturating_sub(1);
+            crate::complain(path, &format!("frame #{frame}: {}", words::refused(*refusal)));
+        }
+        (Ok(_), Verdict::Whole) => return Ok(true),
+        (Ok(_), _) => crate::complain(path, &format!("the chain is not whole: {}", facts::open(&walked.replay))),
     }
-    Ok(walked.said.is_ok())
+    Ok(false)
+}
+
+/// Whether every relocation that the records need could be applied, in a file that is not linked.
+fn readable(file: &File, section: &Section<'_>, parts: &Parts<'_>) -> Result<(), Stop> {
+    if section.left.is_empty() {
+        return Ok(());
+    }
+    let mut listing = Listing::new(section, parts, false);
+    let untold = |k: &usize| matches!(listing.record(*k).found, Err(Untold::Relocations));
+    match (0..parts.records.len()).find(untold) {
+        None => Ok(()),
+        Some(k) => Err(Stop::failed(&file.name, format!("record {k}: {}", words::untold(Untold::Relocations)))),
+    }
 }
 
 /// Walks by the library and replays it; an error where they differ.
@@ -135,7 +165,10 @@ pub fn walked<'a>(
     };
     let replay = Replay::new(&stands);
     match replay.agrees(&said) {
-        true => Ok(Walked { record_name: name, record: fault.record, recorded, machine, pc, section, functions, said, replay }),
+        true => {
+            let (record, tie, missing) = (fault.record, None, None);
+            Ok(Walked { record_name: name, record, recorded, machine, pc, section, functions, said, replay, tie, missing })
+        }
         false => Err(differ()),
     }
 }
@@ -143,11 +176,19 @@ pub fn walked<'a>(
 fn machine(args: &Args, file: &File) -> Result<Machine, Stop> {
     let by_name = args.value("--machine").and_then(registers::Machine::of_name);
     let by_file = || file.object.as_ref().and_then(|object| registers::Machine::of_elf(object.machine));
+    if let (Some(named), Some(own)) = (by_name, by_file()) {
+        if named != own {
+            return Err(Stop::failed(&file.name, "it is a file of another machine than --machine names"));
+        }
+    }
     match by_name.or_else(by_file) {
         Some(registers::Machine::X86_64) => Ok(Machine::X86_64),
         Some(registers::Machine::AArch64) => Ok(Machine::AARCH64),
         Some(registers::Machine::RiscV) => Ok(Machine::RISCV64),
         Some(registers::Machine::Arm) => Ok(Machine::ARM),
+        Some(registers::Machine::I386) => {
+            Err(Stop::failed(&file.name, "i386 has words of 4 bytes, and walk asks for words of 8"))
+        }
         None => Err(Stop::Usage(Usage("walk asks for --machine NAME where the file does not say it".to_string()))),
     }
 }
@@ -163,28 +204,54 @@ fn related(section: &Section<'_>, parts: &Parts<'_>) -> Vec<Relocation> {
     }
 }
 
-/// The functions of the records: by a list, or by the records' own fields with the names of an ELF file's symbols, whose section was linked
-/// to an address.
-fn listed(args: &Args, file: &File, frame: &FrameSection<'_>, linked_at: u64) -> Result<Functions, Stop> {
+/// The functions of the records: by a list, or by the records' own fields with the names of an ELF file's symbols.
+fn listed(args: &Args, file: &File, section: &Section<'_>, parts: &Parts<'_>) -> Result<Functions, Stop> {
+    let linked = file.object.as_ref().is_some_and(|object| !object.relocatable);
     if let Some(path) = args.value("--functions") {
         let text = fs::read_to_string(path).map_err(|error| Stop::failed(path, error))?;
         let read: Option<Vec<_>> = text.lines().filter(|line| !line.trim().is_empty()).map(listed_one).collect();
         let read =
             read.ok_or_else(|| Stop::failed(path, "a function is a line: start address, length, and a name if it has one"))?;
         let names = read.iter().filter_map(|(placed, name)| Some((placed.address, name.clone()?))).collect();
-        return Ok(Functions::new(read.into_iter().map(|(placed, _)| placed).collect(), names));
+        let placed: Vec<Placed> = read.into_iter().map(|(placed, _)| placed).collect();
+        agree(&placed, section, parts, linked || args.has("--base")).map_err(|why| Stop::failed(path, why))?;
+        return Ok(Functions::new(placed, names));
     }
-    if file.object.as_ref().is_some_and(|object| object.relocatable) {
+    if file.object.is_some() && !linked {
         return Err(Stop::failed(
             &file.name,
             "it is not linked, and its functions have no addresses; --functions F lists them",
         ));
     }
-    let placed = functions(frame).map_err(|refusal| Stop::failed(&file.name, words::refused(refusal)))?;
     let names = file.object.as_ref().map_or_else(Vec::new, |object| object::function_names(&file.bytes, object));
-    // --base says how far the file was loaded from where it was linked to.
-    let moved = |(address, name): (u64, String)| (address.wrapping_add(frame.address.wrapping_sub(linked_at)), name);
-    Ok(Functions::new(placed, names.into_iter().map(moved).collect()))
+    let moved = |(address, name): (u64, String)| (fitted(address.wrapping_add(section.moved), section.word), name);
+    Ok(Functions::new(parts.functions(), names.into_iter().map(moved).collect()))
+}
+
+/// Whether a list of functions is one of these records: as many, each as long as its record says, and where the record says that it starts.
+/// Where the table was not linked (`placed`), those of a section are all as far from where its records say.
+fn agree(list: &[Placed], section: &Section<'_>, parts: &Parts<'_>, placed: bool) -> Result<(), String> {
+    if list.len() != parts.records.len() {
+        return Err(format!("it lists {} functions, and the table has {} records", list.len(), parts.records.len()));
+    }
+    let mut moved = BTreeMap::new();
+    for (k, (named, record)) in list.iter().zip(&parts.records).enumerate() {
+        let Ok(own) = parts.function(record.place) else { continue };
+        if own.length != named.length {
+            return Err(format!("function {k} has {} bytes, and its record says {}", named.length, own.length));
+        }
+        let far = named.address.wrapping_sub(own.address);
+        let expected = match (placed, section.home(record.place)) {
+            (true, _) => 0,
+            (false, Some((home, _))) => *moved.entry(*home).or_insert(far),
+            (false, None) => far,
+        };
+        if far != expected {
+            let start = own.address.wrapping_add(expected);
+            return Err(format!("function {k} starts at {:#x}, and its record says {start:#x}", named.address));
+        }
+    }
+    Ok(())
 }
 
 fn listed_one(line: &str) -> Option<(Placed, Option<String>)> {
@@ -204,7 +271,11 @@ fn as_text(out: &mut Out, file: &File, walked: &Walked<'_>) {
     out.text(walked.record_name).text(": ").decimal(recorded.stack.len() as u64).text(" bytes of the stack at ");
     out.text(&format!("{:#x}, {} registers, pc {:#x}", recorded.address, recorded.registers.len(), walked.pc)).line();
     let section = walked.section.name.as_deref().unwrap_or("the bytes of a section");
-    out.text(&format!("{}: {section}, {} functions", file.name, walked.functions.placed.len())).line().line();
+    out.text(&format!("{}: {section}, {} functions", file.name, walked.functions.placed.len())).line();
+    if let Some(tie) = &walked.tie {
+        out.text(&tie.words()).line();
+    }
+    out.line();
     chain(out, walked);
 }
 
@@ -214,7 +285,11 @@ pub fn chain(out: &mut Out, walked: &Walked<'_>) {
         let mark = if step.signal { ", a signal frame" } else { "" };
         out.cell(&format!("#{n}"), 4).text(&title(walked.functions, step)).text(mark).line();
     }
-    out.text(&facts::end(&walked.replay)).line().line();
+    out.text(&facts::end(&walked.replay)).line();
+    if let Some(missing) = &walked.missing {
+        out.text(missing).line();
+    }
+    out.line();
     for (n, step) in walked.replay.steps.iter().enumerate() {
         let what = if n == 0 { "pc" } else { "return address" };
         out.text(&format!("#{n} {}, {what} {:#x}", title(walked.functions, step), step.pc)).line();
@@ -249,6 +324,9 @@ fn as_json(out: &mut Out, file: &File, walked: &Walked<'_>) {
     json::number(out, "stack_bytes", recorded.stack.len() as u64);
     out.text(", ");
     json::number(out, "registers", recorded.registers.len() as u64);
+    if let Some(tie) = &walked.tie {
+        tie.as_json(out);
+    }
     out.text("}, \"frames\": [");
     for (n, step) in walked.replay.steps.iter().enumerate() {
         out.text(if n == 0 { "" } else { "," }).line();
@@ -260,7 +338,13 @@ fn as_json(out: &mut Out, file: &File, walked: &Walked<'_>) {
         Err(refusal) => json::refusal(out, *refusal, words::cause(*refusal)),
     }
     out.text(", ");
+    json::mark(out, "whole", walked.replay.verdict() == Verdict::Whole);
+    out.text(", ");
     json::text(out, "words", &facts::end(&walked.replay));
+    if let Some(missing) = &walked.missing {
+        out.text(", ");
+        json::text(out, "missing", missing);
+    }
     out.text("}").line();
 }
 

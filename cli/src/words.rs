@@ -3,6 +3,8 @@
 use dekvoz::parts::{Fault, Field};
 use dekvoz::{Question, Refusal};
 
+use crate::dump::Untold;
+
 /// An operation's name by its first byte (DWARF 5, section 7.24; LSB 5.0, section 10.5; GNU and AArch64 extensions).
 pub fn operation(opcode: u8) -> &'static str {
     match opcode {
@@ -72,7 +74,18 @@ pub fn fault_cause(fault: Fault) -> &'static str {
     fault.field.map_or(cause(fault.refusal), field)
 }
 
+/// Why an entry is not told, and the question's number, or 0 where none was asked.
+pub fn untold_cause(untold: Untold) -> (u64, &'static str) {
+    match untold {
+        Untold::Refused(fault) => (fault.refusal.number, fault_cause(fault)),
+        Untold::Relocations => (0, "it is not linked, and relocations of its fields or operations could not be applied"),
+    }
+}
+
 /// The same with its number.
-pub fn fault(fault: Fault) -> String {
-    format!("refused with {}: {}", fault.refusal.number, fault_cause(fault))
+pub fn untold(untold: Untold) -> String {
+    match untold_cause(untold) {
+        (0, words) => format!("not read: {words}"),
+        (number, words) => format!("refused with {number}: {words}"),
+    }
 }

@@ -51,7 +51,7 @@ def entries(text):
     found = []
     for line in text.split("\n"):
         # The command tells a record's number behind readelf's fields.
-        line = re.sub(r" record \d+(, long spellings)?$", "", line)
+        line = re.sub(r" record \d+(, in \S+)?(, long spellings)?$", "", line)
         header = re.match(r'([0-9a-f]{8}) ([0-9a-f]+) [0-9a-f]{8} CIE "(.*)" cf=(\d+) df=(-?\d+) ra=(\d+)$', line)
         record = re.match(r"([0-9a-f]{8}) ([0-9a-f]+) [0-9a-f]{8} FDE cie=([0-9a-f]+) pc=([0-9a-f]+)(?:\.\.([0-9a-f]+))?$", line)
         bare = re.match(r"([0-9a-f]{8}) ([0-9a-f]+) \S{8} FDE\b", line)
@@ -134,8 +134,10 @@ def readelf(what, path, header=None):
 
 def dekvoz(*words):
     done = subprocess.run([DEKVOZ, *words], capture_output=True, text=True)
-    if done.stderr or done.returncode:
-        raise Differs(f"dekvoz {' '.join(words)}: {done.stderr.strip()}")
+    # The status is 1 exactly where an entry is refused, as a whole or from some offset on.
+    refused = "refused with" in done.stdout
+    if done.returncode != refused or len(done.stderr.splitlines()) != refused or refused and "entries are refused" not in done.stderr:
+        raise Differs(f"dekvoz {' '.join(words)}: {done.returncode}: {done.stderr.strip()}")
     return done.stdout
 
 
@@ -170,6 +172,9 @@ def program(counts):
         if "ZERO terminator" not in text:
             raise Differs(f"{PROGRAM}: the listing does not say where the section ends")
         compare(entries(text), readelf("frames-interp", PROGRAM), readelf("frames", PROGRAM), counts)
+        said = subprocess.run(["readelf", "--debug-dump=frames-interp", PROGRAM], capture_output=True, text=True, check=True).stdout
+        if subprocess.run([DEKVOZ, "dump", "--readelf", PROGRAM], capture_output=True, text=True, check=True).stdout != said:
+            raise Differs(f"{PROGRAM}: dump --readelf is not what readelf writes")
         counts["programs"] += 1
 
 

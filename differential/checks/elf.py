@@ -6,6 +6,7 @@
     elf.py COUNT SEED whole     every ELF file of /usr/bin and below /usr/lib and of the cross packages
     elf.py readelf              sections and segments of the same files as readelf lists them
     elf.py addr2line COUNT SEED   the functions at addresses of COUNT of these files, by that program, as addr2line names them
+    elf.py gdb COUNT SEED         the same of COUNT shared objects, as gdb's `info symbol` names them
 
 At the end stands how often each number was answered; 0 is an answer."""
 
@@ -576,6 +577,7 @@ def with_addr2line(count, seed):
     """What our program finds begins where the function begins that addr2line names. It names none in some stripped files, and where
     nothing covers an address the one in front."""
     rng, asked, covered, n = random.Random(seed), 0, 0, 0
+    os.makedirs(os.path.join(OUT, "elf"), exist_ok=True)
     for path in rng.sample(list(files()), count):
         f = File(whole(path)[1])
         try:
@@ -613,9 +615,36 @@ def with_addr2line(count, seed):
     print(f"elf: {covered} of {asked} addresses in {n} files are in the function that addr2line names; it names none, or nothing covers the others")
 
 
+def with_gdb(count, seed):
+    rng, asked, n = random.Random(seed), 0, 0
+    objects = [path for path in files() if ".so" in path and "debug" not in path and 30000 < os.path.getsize(path) < 3000000]
+    for path in rng.sample(objects, count):
+        f = File(whole(path)[1])
+        kinds = [(f.entry(i)["sh_type"], i) for i in range(f.once("sections")[1])]
+        tables = [i for kind, i in kinds if kind == 2] or [i for kind, i in kinds if kind == 11]
+        functions = f.functions(tables[0]) if tables and f.once("header")["e_machine"] == 62 else []
+        if not functions:
+            continue
+        chosen = rng.sample(functions, min(len(functions), 30))
+        places = [a for start, size, _, _ in chosen for a in (start, start + size // 2, start + max(size, 1) - 1)]
+        lines = [part for a in places for part in ("-ex", f"info symbol {a:#x}")]
+        ask_gdb = ["gdb", "-nx", "-batch", "-iex", "set debug-file-directory /nonexistent", *lines, path]
+        said = subprocess.run(ask_gdb, capture_output=True, text=True, errors="replace").stdout.splitlines()
+        n += 1
+        for address, line in zip(places, said, strict=True):
+            says = re.match(r".+?(?: \+ (\d+))? in section", line)
+            start = f.function_at(tables[0], functions, 0, address)[5]
+            if not says or address - int(says.group(1) or 0) != start:
+                sys.exit(f"elf: {path}: {address:#x}: gdb says {line}, ours begins at {start:#x}")
+            asked += 1
+    print(f"elf: {asked} addresses in {n} shared objects are in the function that gdb names")
+
+
 if sys.argv[1:] == ["readelf"]:
     with_readelf()
 elif sys.argv[1] == "addr2line":
     with_addr2line(int(sys.argv[2]), int(sys.argv[3]))
+elif sys.argv[1] == "gdb":
+    with_gdb(int(sys.argv[2]), int(sys.argv[3]))
 else:
     judged(int(sys.argv[1]), int(sys.argv[2]), sys.argv[3:] == ["whole"])

@@ -8,7 +8,8 @@ puts a frame with a signal mark on the stack, as firmware does, and the trapping
 them and tells at each instruction its own chain, the registers and the stack. These are written as a record file; the functions come from
 the records of .eh_frame by unwind_function_at. The chain must be gdb's up to the first frame that is not in the program's own code. At some
 stops the command, where it is built, is asked too: `dekvoz walk` of the program must name gdb's functions. So it must of a program that is
-loaded anywhere, recorded by examples/gdb/record.py."""
+loaded anywhere, of its core file, and of one for AArch64 under qemu, recorded by examples/gdb/record.py; and refuse the record with another
+program."""
 
 import json
 import os
@@ -16,6 +17,7 @@ import shutil
 import subprocess
 import sys
 import tempfile
+import time
 
 sys.path.insert(0, os.path.dirname(os.path.dirname(os.path.abspath(__file__))))
 
@@ -129,8 +131,7 @@ RECORDING = """
 set pagination off
 set confirm off
 source {recorder}
-break leaf
-run
+{before}
 dekvoz-record {fault}
 python
 frame = gdb.newest_frame()
@@ -138,7 +139,7 @@ while frame is not None:
     print("frame", frame.name())
     frame = frame.older()
 end
-kill
+{after}
 """
 
 
@@ -209,24 +210,90 @@ def named(program, folder, case, names):
     with open(fault, "wb") as file:
         file.write(case.record)
     words = [DEKVOZ, "walk", program, "--fault", fault, "--pc", str(case.pc), "--stack", str(case.stack), "--json"]
-    said = json.loads(subprocess.run(words, capture_output=True, text=True, check=True).stdout)
+    said = asked_of(words[1:])
     found = [frame["function"] for frame in said["frames"]]
     if len(found) != len(names) or any(name is not None and name != own for name, own in zip(names, found, strict=True)):
         sys.exit(f"walk_gdb: {program}: at {case.pc:#x}: gdb names {names}, the command {found}")
 
 
-def anywhere(folder):
-    """A program that is loaded anywhere, recorded as people do it."""
-    program, script, fault = built(folder, ["-O2", "-pie", "-fPIE"]), os.path.join(folder, "script"), os.path.join(folder, "fault")
+def asked_of(words):
+    """The command's answer. The status is 0 exactly where the chain is whole."""
+    done = subprocess.run([DEKVOZ, *words], capture_output=True, text=True)
+    answer = json.loads(done.stdout) if done.stdout else {}
+    if done.returncode != (0 if answer.get("whole") else 1):
+        sys.exit(f"walk_gdb: {words}: status {done.returncode}: {done.stderr}")
+    return answer
+
+
+def as_people_do(gdb, program, folder, before, after, *more):
+    """The command that examples/gdb/record.py prints: it must name gdb's functions up to the first of another module."""
+    script, fault = os.path.join(folder, "script"), os.path.join(folder, "fault")
+    recorder = os.path.join(ROOT, "examples", "gdb", "record.py")
     with open(script, "w") as file:
-        file.write(RECORDING.format(recorder=os.path.join(ROOT, "examples", "gdb", "record.py"), fault=fault))
-    said = subprocess.run(["gdb", "-nx", "-batch", "-x", script, program], capture_output=True, text=True, timeout=300).stdout.splitlines()
+        file.write(RECORDING.format(recorder=recorder, fault=fault, before=before, after=after))
+    said = subprocess.run([gdb, "-nx", "-batch", "-x", script, program, *more], capture_output=True, text=True, timeout=300).stdout.splitlines()
     line = next(line for line in said if line.startswith("dekvoz walk "))
-    answer = subprocess.run([DEKVOZ, *line.split()[1:], "--json"], capture_output=True, text=True, check=True).stdout
+    answer = asked_of([*line.split()[1:], "--json"])
     names = [line.removeprefix("frame ") for line in said if line.startswith("frame ")]
-    found = [frame["function"] for frame in json.loads(answer)["frames"]]
-    if found != names:
-        sys.exit(f"walk_gdb: {line}: gdb names {names}, the command {found}")
+    found = [frame["function"] for frame in answer["frames"]]
+    if found[: len(names)] != names or not answer["fault"]["build_id_compared"]:
+        sys.exit(f"walk_gdb: {line}: gdb names {names}, the command {found}: {answer['fault']}")
+    return line
+
+
+def anywhere(folder):
+    """A program that is loaded anywhere, recorded as people do it, and its core file; the record with a program that was built anew."""
+    program, core = built(folder, ["-O2", "-pie", "-fPIE"]), os.path.join(folder, "core")
+    first = as_people_do("gdb", program, folder, "break leaf\nrun", f"generate-core-file {core}\nkill")
+    again = as_people_do("gdb", program, folder, "", "", core)
+    if first != again:
+        sys.exit(f"walk_gdb: {first} stopped, and of its core file {again}")
+    os.rename(built(folder, ["-O1", "-pie", "-fPIE"]), program)
+    done = subprocess.run([DEKVOZ, *first.split()[1:]], capture_output=True, text=True)
+    if done.returncode != 1 or done.stdout or "was recorded of a program with the build id" not in done.stderr:
+        sys.exit(f"walk_gdb: a record of another program: {done}")
+
+
+ELSEWHERE = """
+__attribute__((noinline)) long leaf(long a) { volatile long kept[4] = {a, a, a, a}; return kept[a & 3]; }
+__attribute__((noinline)) long middle(long a) { return leaf(a) + leaf(a + 1) * a; }
+int main(int c, char **v) { return middle(c) + c; }
+"""
+
+
+def elsewhere(folder):
+    """A program for AArch64 under qemu: the record is of its registers. Where the reader takes its table, the chain is gdb's."""
+    if not all(shutil.which(tool) for tool in ("aarch64-linux-gnu-gcc", "qemu-aarch64", "gdb-multiarch")):
+        return False
+    source, program, fault = (os.path.join(folder, name) for name in ("elsewhere.c", "elsewhere", "fault"))
+    with open(source, "w") as file:
+        file.write(ELSEWHERE)
+    subprocess.run(["aarch64-linux-gnu-gcc", "-O1", "-static", "-o", program, source], check=True)
+    socket = os.path.join(folder, "socket")
+    stopped = subprocess.Popen(["qemu-aarch64", "-g", socket, program], stdout=subprocess.DEVNULL, stderr=subprocess.DEVNULL)
+    try:
+        while not os.path.exists(socket) and stopped.poll() is None:
+            time.sleep(0.02)
+        script = os.path.join(folder, "script")
+        recorder = os.path.join(ROOT, "examples", "gdb", "record.py")
+        with open(script, "w") as file:
+            after = "python print('sp', int(gdb.parse_and_eval('(long)$sp')), 'pc', int(gdb.parse_and_eval('(long)$pc')), 'lr', int(gdb.parse_and_eval('$x30')))"
+            file.write(f"set confirm off\nsource {recorder}\ntarget remote {socket}\nbreak leaf\ncontinue\ndekvoz-record {fault}\n{after}\nkill\n")
+        done = subprocess.run(["gdb-multiarch", "-nx", "-batch", "-x", script, program], capture_output=True, text=True, timeout=120)
+    finally:
+        stopped.kill()
+        stopped.wait()
+    line = next((line.split() for line in done.stdout.splitlines() if line.startswith("dekvoz walk ")), None)
+    if line is None:
+        sys.exit(f"walk_gdb: a record of AArch64: {done.stdout} {done.stderr}")
+    _, sp, _, pc, _, lr = next(line.split() for line in done.stdout.splitlines() if line.startswith("sp "))
+    with open(fault, "rb") as file:
+        data = file.read()
+    registers = [int.from_bytes(data[at : at + 8], "little") for at in range(len(data) - 16 - 8 * 32, len(data) - 16, 8)]
+    options = dict(zip(line[3::2], line[4::2], strict=True))
+    if (registers[31], registers[30], int(options["--pc"], 16), int(options["--stack"], 16)) != (int(sp), int(lr), int(pc), int(sp)):
+        sys.exit(f"walk_gdb: a record of AArch64: gdb has sp {sp}, lr {lr}, pc {pc}, the record {registers} {options}")
+    return True
 
 
 def main():
@@ -235,6 +302,7 @@ def main():
             print(f"walk_gdb: the walk of real programs was passed over, since {tool} isn't there")
             return
     stops = signals = longest = asked = 0
+    foreign = False
     with tempfile.TemporaryDirectory() as folder:
         for flags in FLAGS:
             program = built(folder, [*flags, "-no-pie"])
@@ -258,7 +326,8 @@ def main():
                 longest = max(longest, len(chain))
         if os.path.exists(DEKVOZ):
             anywhere(folder)
-    print(f"walk_gdb: {stops} stops of {len(FLAGS)} programs have gdb's chain, up to {longest} frames; {signals} of them through a signal frame; the command names the functions at {asked}")
+            foreign = elsewhere(folder)
+    print(f"walk_gdb: {stops} stops of {len(FLAGS)} programs have gdb's chain, up to {longest} frames; {signals} of them through a signal frame; the command names the functions at {asked}{', and AArch64 is recorded' if foreign else ''}")
 
 
 if __name__ == "__main__":

@@ -60,7 +60,7 @@ static const struct {
 static const uint64_t placed[2 * FUNCTIONS] = {0x1000, 14, 0x1010, 61, 0x1050, 50};
 enum { STACK = 0x8000, STACK_WORDS = 10, REGISTERS = 17, STOPPED = 0x1050 + 20 };
 static const uint64_t stack[STACK_WORDS] = {0, 0, 0, 0, 7, 0x1010 + 31, 0, 0, 0, 0x1000 + 12};
-static const uint64_t values[REGISTERS] = {[RBP] = STACK + 64, [RSP] = STACK};
+static const uint64_t values[REGISTERS] = {0, 0, 0, 0, 0, 0, /* rbp */ STACK + 64, /* rsp */ STACK};
 
 static uint64_t places[FUNCTIONS], relocations[5 * 8];
 static uint8_t bytes[512];

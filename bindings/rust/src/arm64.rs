@@ -302,7 +302,7 @@ fn written(functions: &[u64], epilogues: &[u64], codes: &[u64], lent: &mut Lent<
     counts(&written)
 }
 
-/// The second word of function `k`'s entry in what [`write`] wrote, and the place of its record, as [`read`] takes them; `None` past the
+/// The second word of function `k`'s entry in what [`write()`] wrote, and the place of its record, as [`read`] takes them; `None` past the
 /// list. Of an entry that is not packed the word is blank until it is linked.
 #[must_use]
 pub fn entry(table: &Table, k: usize) -> Option<(u32, u64)> {

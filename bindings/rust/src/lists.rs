@@ -64,6 +64,14 @@ pub(crate) fn counts(w: &sys::Written) -> Result<Counts, Refusal> {
     })
 }
 
+/// A ready machine's list.
+fn ready(machine_of: unsafe extern "C" fn(*mut u64, usize) -> u64) -> [u64; 70] {
+    let mut machine = [0; 70];
+    // SAFETY: the pointer is valid for the list's 70 numbers and nothing else refers to it; 70 are enough, so the answer is 0.
+    unsafe { machine_of(machine.as_mut_ptr(), machine.len()) };
+    machine
+}
+
 /// The list of the ready x86-64 (System V psABI).
 ///
 /// ```
@@ -71,10 +79,47 @@ pub(crate) fn counts(w: &sys::Written) -> Result<Counts, Refusal> {
 /// ```
 #[must_use]
 pub fn machine_x86_64() -> [u64; 70] {
-    let mut machine = [0; 70];
-    // SAFETY: the pointer is valid for the list's 70 numbers and nothing else refers to it; 70 are enough, so the answer is 0.
-    unsafe { sys::unwind_machine_x86_64(machine.as_mut_ptr(), machine.len()) };
-    machine
+    ready(sys::unwind_machine_x86_64)
+}
+
+/// The list of AArch64 (DWARF for the Arm 64-bit Architecture).
+///
+/// ```
+/// assert_eq!(dekvoz::lists::machine_aarch64(), dekvoz::Machine::AARCH64.numbers());
+/// ```
+#[must_use]
+pub fn machine_aarch64() -> [u64; 70] {
+    ready(sys::unwind_machine_aarch64)
+}
+
+/// The list of ARM of 32 bits (DWARF for the Arm Architecture).
+///
+/// ```
+/// assert_eq!(dekvoz::lists::machine_arm(), dekvoz::Machine::ARM.numbers());
+/// ```
+#[must_use]
+pub fn machine_arm() -> [u64; 70] {
+    ready(sys::unwind_machine_arm)
+}
+
+/// The list of RISC-V of 64 bits (RISC-V ELF psABI).
+///
+/// ```
+/// assert_eq!(dekvoz::lists::machine_riscv64(), dekvoz::Machine::RISCV64.numbers());
+/// ```
+#[must_use]
+pub fn machine_riscv64() -> [u64; 70] {
+    ready(sys::unwind_machine_riscv64)
+}
+
+/// The list of RISC-V of 32 bits.
+///
+/// ```
+/// assert_eq!(dekvoz::lists::machine_riscv32(), dekvoz::Machine::RISCV32.numbers());
+/// ```
+#[must_use]
+pub fn machine_riscv32() -> [u64; 70] {
+    ready(sys::unwind_machine_riscv32)
 }
 
 /// The table of a list of functions. Formats: 0 ELF, 1 COFF, 2 Mach-O (refused by 78), 3 Wasm, 4 Plan 9.

@@ -315,6 +315,40 @@ impl<'a> FrameSection<'a> {
         Ok(Placed { address: r.address, length: r.length })
     }
 
+    /// The first record whose function holds an address, by its place and its header's, as [`FrameSection::locate_at`] takes it.
+    ///
+    /// # Errors
+    /// 61; 62 where no record holds it; 63 where that record has no header.
+    ///
+    /// ```
+    /// use dekvoz::{apply, relaxed_table, Format, FrameSection, Function, Machine, Section, Word};
+    ///
+    /// let table = relaxed_table(&Machine::X86_64, Format::Elf, &[Function::new(16, 9, &[])])?;
+    /// let bytes = apply(&table.bytes, &table.relocations, &[(16, 0x1000)], 0x2000, 0)?;
+    /// let section = FrameSection { bytes: &bytes, relocations: &[], kind: Section::Eh, word: Word::Eight, address: 0x2000 };
+    /// assert_eq!(section.record_at(0x1008)?, section.records()?[0]);
+    /// assert_eq!(section.record_at(0x1009).map_err(|no| no.number), Err(62));
+    /// # Ok::<(), dekvoz::Refusal>(())
+    /// ```
+    pub fn record_at(&self, pc: u64) -> Result<Record, Refusal> {
+        let numbers = Relocation::numbers(self.relocations);
+        // SAFETY: each pointer and count come from one slice, and nothing is lent. The function takes every number.
+        let r = unsafe {
+            sys::unwind_entries_of(
+                self.bytes.as_ptr(),
+                self.bytes.len(),
+                numbers.as_ptr(),
+                numbers.len(),
+                self.kind.number(),
+                self.word.bytes(),
+                self.address,
+                pc,
+            )
+        };
+        accepted(r.number)?;
+        Ok(Record { place: r.record, header: Some(r.header) })
+    }
+
     /// The first record whose function holds an address.
     ///
     /// # Errors
@@ -485,6 +519,41 @@ impl<'a> Located<'a> {
         along.lines = r.lines as usize;
         along.ended = (r.ending != 0).then_some((r.from, Refusal { number: r.ending, position: 0 }));
         accepted(r.number)
+    }
+
+    /// The rules at an offset of registers 0 up to `count`, one behind the other.
+    ///
+    /// # Errors
+    /// The question that was answered by no: 65 to 69.
+    ///
+    /// ```
+    /// use dekvoz::{relaxed_table, Builder, Format, FrameSection, Machine, Rule, Section};
+    ///
+    /// let function = Builder::new(16, 31).at(1).def_cfa_offset(16).offset(6, -16).done();
+    /// let table = relaxed_table(&Machine::X86_64, Format::Elf, &[function.function()])?;
+    /// let (kind, word) = (Section::Eh, Machine::X86_64.word);
+    /// let section = FrameSection { bytes: &table.bytes, relocations: &table.relocations, kind, word, address: 0 };
+    /// let rules = section.locate(0)?.registers(1, 17)?;
+    /// assert_eq!((rules[5], rules[6], rules[16]), (Rule::Unstated, Rule::Saved(-16), Rule::Saved(-8)));
+    /// # Ok::<(), dekvoz::Refusal>(())
+    /// ```
+    pub fn registers(&self, p: u64, count: u16) -> Result<Vec<Rule>, Refusal> {
+        let mut rules = vec![[0; 2]; usize::from(count)];
+        let lent = rules.as_flattened_mut();
+        // SAFETY: each pointer and count come from one slice, so they are valid and aligned; `lent` is of this function alone. The
+        // function takes every number.
+        let r = unsafe {
+            sys::unwind_all_rules_at(
+                self.bytes.as_ptr(),
+                self.bytes.len(),
+                self.places,
+                p,
+                lent.as_mut_ptr(),
+                lent.len(),
+            )
+        };
+        accepted(r.number)?;
+        Ok(rules.into_iter().map(|[rule, value]| lists::rules_of([0, 0, 0, rule, value, 0]).1).collect())
     }
 
     /// The rules at offset `p` for every register that the operations up to the first unreadable one name.

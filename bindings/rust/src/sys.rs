@@ -85,6 +85,27 @@ pub(crate) struct Holder {
     pub place: u64,
 }
 
+/// A record by its number and its place, and the place of its header.
+#[repr(C)]
+pub(crate) struct Entries {
+    pub number: u64,
+    pub k: u64,
+    pub record: u64,
+    pub header: u64,
+}
+
+/// What all registers' rules have in common, and how many registers there are.
+#[repr(C)]
+pub(crate) struct AllRules {
+    pub number: u64,
+    pub frame: u64,
+    pub frame_register: u64,
+    pub frame_offset: u64,
+    pub signing: u64,
+    pub shortest: u64,
+    pub registers: u64,
+}
+
 /// What the walk over a recorded fault answers.
 #[repr(C)]
 pub(crate) struct Chain {
@@ -331,6 +352,14 @@ extern "C" {
 
     pub(crate) fn unwind_machine_x86_64(machine: *mut u64, machine_n: usize) -> u64;
 
+    pub(crate) fn unwind_machine_aarch64(machine: *mut u64, machine_n: usize) -> u64;
+
+    pub(crate) fn unwind_machine_arm(machine: *mut u64, machine_n: usize) -> u64;
+
+    pub(crate) fn unwind_machine_riscv64(machine: *mut u64, machine_n: usize) -> u64;
+
+    pub(crate) fn unwind_machine_riscv32(machine: *mut u64, machine_n: usize) -> u64;
+
     pub(crate) fn unwind_call_site(sites: *const u8, sites_n: usize, place: u64, offset: u64) -> Site;
 
     pub(crate) fn unwind_read_x64(info: *const u8, info_n: usize, place: u64, codes: *mut u64, codes_n: usize) -> X64Reading;
@@ -486,6 +515,26 @@ extern "C" {
 
     pub(crate) fn unwind_record_of(section: *const u8, section_n: usize, kind: u64, word: u64, address: u64, pc: u64)
         -> Holder;
+
+    pub(crate) fn unwind_entries_of(
+        section: *const u8,
+        section_n: usize,
+        relocations: *const u64,
+        relocations_n: usize,
+        kind: u64,
+        word: u64,
+        address: u64,
+        pc: u64,
+    ) -> Entries;
+
+    pub(crate) fn unwind_all_rules_at(
+        section: *const u8,
+        section_n: usize,
+        located: Located,
+        p: u64,
+        rules: *mut u64,
+        rules_n: usize,
+    ) -> AllRules;
 
     pub(crate) fn unwind_walk(
         machine: *const u64,

@@ -277,8 +277,27 @@ fn relocations_applied() {
 }
 
 #[test]
-fn the_ready_machine_is_the_librarys() {
+fn the_ready_machines_are_the_librarys() {
     assert_eq!(Machine::X86_64.numbers(), lists::machine_x86_64());
+    assert_eq!(Machine::AARCH64.numbers(), lists::machine_aarch64());
+    assert_eq!(Machine::ARM.numbers(), lists::machine_arm());
+    assert_eq!(Machine::RISCV64.numbers(), lists::machine_riscv64());
+    assert_eq!(Machine::RISCV32.numbers(), lists::machine_riscv32());
+}
+
+/// `unwind_question_words` of the C header has the words of each question, and no other.
+#[test]
+fn the_headers_words_are_these() {
+    let header = include_str!("../../../include/dekvoz.h");
+    let mut listed = 0;
+    for line in header.lines().filter_map(|line| line.trim().strip_prefix("case ")) {
+        let (number, words) = line.split_once(": return \"").unwrap();
+        let refusal = dekvoz::Refusal { number: number.parse().unwrap(), position: 0 };
+        assert_eq!(refusal.asked().unwrap().words(), words.strip_suffix("\";").unwrap());
+        listed += 1;
+    }
+    let known = (0..1000).filter(|&number| dekvoz::Refusal { number, position: 0 }.asked().is_some()).count();
+    assert_eq!(listed, known);
 }
 
 /// A table of two sites behind two zeros, its length and the last number in long form, and a refusal of each kind.

@@ -1,5 +1,6 @@
--- What stands in the field of a Set and Sub pair once a section is put in place (RISC-V psABI, "Relocations"): the distance of the two labels, however
--- either address and what stands there between wrap, and the bits above the field as they were.
+-- What stands in the field of a Set and Sub pair once a section is put in place (RISC-V psABI,
+-- "Relocations"): the distance of the two labels, however either address and what stands there between wrap,
+-- and the bits above the field as they were.
 use Rattle.std.specs.Prelude.{◌≡◌, ℕ, ◌+◌, ◌/◌, ◌^◌, ◌≤◌, ◌⊎◌, List, ◌∷◌, ◌++◌}
 use Rattle.std.proofs.Math.Option.{some}
 use Rattle.format.specs.Lists.{Relocation}

@@ -28,8 +28,9 @@ placed_count number o = pick (eqb number 0) (bytes_in o) 0
 unfoldable pub reading_in_place : (machine : List ℕ) → (number : ℕ) → Outcome → (out : List ℕ) → (k q p : ℕ) → Reading
 reading_in_place machine number o out k q p = read (take (placed_count number o) out) [] 0 (get_or machine 0 0) k q p
 
--- Where the list was accepted and its relocations were applied, function k passes the row check, and p is below its new length, the reading is
--- what the function's rows, moved as its labels were, give at p for register q.
+-- Where the list was accepted and its relocations were applied, function k passes the row check, and p is
+-- below its new length, the reading is what the function's rows, moved as its labels were, give at p for
+-- register q.
 abbrev pub MovedBack : Given → (addresses : List ℕ) → Outcome → (number k q p : ℕ) → Reading → Type 0
 MovedBack g addresses o number k q p reading =
     (c : Counts) → o ≡ Ok (Some c) → number ≡ 0 → k < count function_stride g.functions → T (row_check_at g.functions g.rows k)

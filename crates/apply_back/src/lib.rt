@@ -30,12 +30,15 @@ fn placed_count(number: u64, outcome: Result<Option<Counts>, Refusal>) -> usize
     0
 }
 
-/// eh_frame's writer, its relocations applied to exactly what it wrote, at the front of `out`, and then the reader on the bytes in place. Where
-/// the list was accepted and its relocations were applied, function k passes the row check, and p is below its new length, the reading is what
-/// the function's rows, moved as its labels were, give at p for register q: with relaxing labels or without, whatever the addresses. Where the
-/// writer refused, nothing is put in place, and where the relocations were refused, `out` is as it was and the reader is handed nothing.
-// Kept: the lists one by one. `Writes`, `apply_for` and `MovedBack` of the theorem in README name each of them; in `lists::Lists` and
-// `lists::output::Output` each clause would name a field of another value (`to.old.places.now`).
+/// eh_frame's writer, its relocations applied to exactly what it wrote, at the front of `out`, and then the
+/// reader on the bytes in place. Where the list was accepted and its relocations were applied, function k
+/// passes the row check, and p is below its new length, the reading is what the function's rows, moved as its
+/// labels were, give at p for register q: with relaxing labels or without, whatever the addresses. Where the
+/// writer refused, nothing is put in place, and where the relocations were refused, `out` is as it was and
+/// the reader is handed nothing.
+// Kept: the lists one by one. `Writes`, `apply_for` and `MovedBack` of the theorem in README name each of
+// them; in `lists::Lists` and `lists::output::Output` each clause would name a field of another value
+// (`to.old.places.now`).
 pub fn write_apply_and_read(
     machine: &[u64],
     functions: &[u64],

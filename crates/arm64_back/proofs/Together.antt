@@ -72,17 +72,17 @@ module _ (fs es cs p b q s : List ℕ) {o : Outcome} {p' b' q' s' : List ℕ}
     marker_of : get_or p' k 0 ≡ get_or w.places k 0
     marker_of = marker_is fs es cs p b q s writes.placed writes.stored writes.sited w a k l
 
-    entry : (placed : ℕ) → placed % 4 ≡ 0 → EntryWord this b' k (finished_word p' b' k placed)
+    entry : (placed : ℕ) → (is_packed this ≡ false → placed % 4 ≡ 0) → EntryWord this b' k (finished_word p' b' k placed)
     unfolding finished_word
     entry placed whole =
         record {
           packed = λ t. if-eq (get_or p' k 0) no_record _ _ (marker_of ∙ marker_packed fs es cs (room_in p b q s) w a k l t);
           placed = λ t.
               let m : get_or p' k 0 % 4 ≡ 0 = ap (λ (n : ℕ). n % 4) marker_of ∙ marker_whole fs es cs (room_in p b q s) w a k l t in
-              ap (λ (n : ℕ). n % 4) (if-ne (get_or p' k 0) no_record (second_word b' k) placed (λ e. let z : ◌≡◌ {A = ℕ} 3 0 = ap (λ (n : ℕ). n % 4) (sym e) ∙ m in omega (arith, z))) ∙ whole;
+              ap (λ (n : ℕ). n % 4) (if-ne (get_or p' k 0) no_record (second_word b' k) placed (λ e. let z : ◌≡◌ {A = ℕ} 3 0 = ap (λ (n : ℕ). n % 4) (sym e) ∙ m in omega (arith, z))) ∙ whole t;
         }
 
-    back : (placed : ℕ) → placed % 4 ≡ 0 → (ds bs : List ℕ) → Roomy this ds bs → {x : code.Option Arm64Reading} {ds' bs' : List ℕ}
+    back : (placed : ℕ) → (is_packed this ≡ false → placed % 4 ≡ 0) → (ds bs : List ℕ) → Roomy this ds bs → {x : code.Option Arm64Reading} {ds' bs' : List ℕ}
         → RowRead (row_read o p' b' s' k placed ds bs) x ds ds' bs bs' → GivenBack this x ds ds' bs bs'
     unfolding row_read pick
     back placed whole ds bs room {x} {ds'} {bs'} r =

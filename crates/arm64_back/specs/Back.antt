@@ -1,5 +1,5 @@
--- What holds of a function that was written and read back: its length and its epilogues' starts are as given, and each code does what the given one
--- does.
+-- What holds of a function that was written and read back: its length and its epilogues' starts are as given,
+-- and each code does what the given one does.
 use Rattle.std.specs.Prelude.{◌≡◌, Bool, true, false, ◌&&◌, List, [], ◌∷◌, ◌++◌, map, length, ℕ, ◌+◌, ◌*◌, ◌%◌}
 use Rattle.format.specs.Prelude.{Result, good, all}
 use Rattle.arm64.specs.declared.Code.{Code}
@@ -78,7 +78,8 @@ pub record ReadBack (u : Unwound) (r : Result Unwound) : Type 0 where
 unfoldable pub second_word : (bytes : List ℕ) → (k : ℕ) → ℕ
 second_word bytes k = word_at bytes (8 * k + 4)
 
--- and as it may stand in the finished file: a packed word unchanged; else the record's place, which is whole words, as its section's start is
+-- and as it may stand in the finished file: a packed word unchanged; else the record's place, which is whole
+-- words, as its section's start is
 pub record EntryWord (f : Function) (bytes : List ℕ) (k word : ℕ) : Type 0 where
   pub packed : is_packed f ≡ true → word ≡ second_word bytes k
   pub placed : is_packed f ≡ false → word % 4 ≡ 0

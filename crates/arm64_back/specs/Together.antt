@@ -52,7 +52,8 @@ has_row (Ok (Some c)) k = ltb k c.places
 has_row (Ok None) k = false
 has_row (Err r) k = false
 
--- the second word of its row in the finished file: as it was written where the function is packed, else what a linker puts there
+-- the second word of its row in the finished file: as it was written where the function is packed, else what
+-- a linker puts there
 unfoldable pub finished_word : (markers bytes : List ℕ) → (k placed : ℕ) → ℕ
 finished_word markers bytes k placed = pick (eqb (get_or markers k 0) no_record) (second_word bytes k) placed
 
@@ -67,11 +68,12 @@ pub record GivenBack (f : Function) (a : code.Option Arm64Reading) (es es' cs cs
   pub read : RowRead (some (good unwound)) a es es' cs cs'
   pub same : SameUnwound unwound (given f)
 
--- Where the list was accepted, what a linker puts in the row of a function with a record is whole words, and the reader's lists have room, function k
--- is read as it was given.
+-- Where the list was accepted, what a linker puts in the row of a function with a record is whole words, and
+-- the reader's lists have room, function k is read as it was given.
 abbrev pub FunctionBack : (fs es cs : List ℕ) → Outcome → (k placed : ℕ) → code.Option Arm64Reading → (ds ds' bs bs' : List ℕ) → Type 0
 FunctionBack fs es cs o k placed a ds ds' bs bs' =
-    (c : Counts) → o ≡ Ok (Some c) → k < count function_stride fs → placed % 4 ≡ 0 → Roomy (numbered_function fs es cs k) ds bs
+    (c : Counts) → o ≡ Ok (Some c) → k < count function_stride fs → (is_packed (numbered_function fs es cs k) ≡ false → placed % 4 ≡ 0)
+    → Roomy (numbered_function fs es cs k) ds bs
     → GivenBack (numbered_function fs es cs k) a ds ds' bs bs'
 
 -- ---- both forms of one function

@@ -1,17 +1,16 @@
-// Windows' unwind data on ARM64: written and read back, a packed word beside the full record of its function, and how far a packed word's prologue
-// moves the stack pointer.
+// Windows' unwind data on ARM64: written and read back, a packed word beside the full record of its function,
+// and how far a packed word's prologue moves the stack pointer.
 #![tactic(auto)]
 
 ghost use Rattle.std.specs.Prelude.{◌≡◌, true, [], ◌+◌, ◌*◌, ◌≤◌, ◌<◌, length, get_or, Some};
 ghost use Rattle.format.specs.Coded.{numbered_at};
 ghost use Rattle.format.specs.Questions.{room_in};
 ghost use Rattle.format.specs.Answers.{Writes};
-ghost use Rattle.format.proofs.Asked.{option_of};
 ghost use Rattle.arm64.specs.declared.Part.TheVariants.{Prologue};
 ghost use Rattle.arm64.specs.Packed.{packed_of, slot_at};
 ghost use Rattle.arm64.specs.Reader.{read_arm64};
 ghost use Rattle.arm64.specs.Writer.{arm64_answer};
-ghost use Rattle.arm64_back.specs.Down.{down_by, slot_down, is_defined, packed_down};
+ghost use Rattle.arm64_back.specs.Down.{number_in, down_by, slot_down, is_defined, packed_down};
 ghost use Rattle.arm64_back.specs.Together.{has_row, finished_word, row_read, RowRead, FunctionBack, Answers, PackedAsFull};
 
 use arm64::{Arm64Reading, Code, Part};
@@ -47,7 +46,8 @@ fn marker_at(markers: &[u64], k: usize) -> u64
     markers[k]
 }
 
-// The second word of function k's row in the finished file: as it was written where the function is packed, else what a linker puts there.
+// The second word of function k's row in the finished file: as it was written where the function is packed,
+// else what a linker puts there.
 #[tactic(auto, unfolding(crate::specs::Together::finished_word, crate::specs::Back::second_word, format::specs::Prelude::pick))]
 fn finished_word(markers: &[u64], bytes: &[u8], k: usize, placed: u64) -> u64
     requires { (k < length markers.now) × (8 * k + 8 ≤ length bytes.now) }
@@ -59,11 +59,13 @@ fn finished_word(markers: &[u64], bytes: &[u8], k: usize, placed: u64) -> u64
     placed
 }
 
-/// The writer, and then the reader on function k by the second word of its row in the finished file: as it was written where the function is packed,
-/// else `placed`, the place of its record there. Where the list was accepted, `placed` is whole words, and the reader's lists have room for as many
-/// epilogues and codes as were given, the reading has the length, the epilogues' starts and, code by code, the meaning that were given. None, and the
-/// reader's lists as they were, where no row was written for function k.
-// Kept: the lists one by one, as C lends them. `Writes`, `RowRead` and `FunctionBack` of the theorem in README name each of them.
+/// The writer, and then the reader on function k by the second word of its row in the finished file: as it
+/// was written where the function is packed, else `placed`, the place of its record there, which is whole
+/// words. Where the list was accepted, and the reader's lists have room for as many epilogues and codes as were
+/// given, the reading has the length, the epilogues' starts and, code by code, the meaning that were given.
+/// None, and the reader's lists as they were, where no row was written for function k.
+// Kept: the lists one by one, as C lends them. `Writes`, `RowRead` and `FunctionBack` of the theorem in
+// README name each of them.
 pub fn write_and_read(
     functions: &[u64],
     epilogues: &[u64],
@@ -114,9 +116,10 @@ pub struct BothForms {
     pub full: Arm64Reading,
 }
 
-/// The reader on a packed word, and on the full record at `place` of `xdata`, each into lent lists of its own. Where the word is the one that the
-/// writer gives a function, the record is the full one of the same function, and both pairs of lists have room, both readings have the same length
-/// and starts of epilogues, and codes that mean the same one by one.
+/// The reader on a packed word, and on the full record at `place` of `xdata`, each into lent lists of its
+/// own. Where the word is the one that the writer gives a function, the record is the full one of the same
+/// function, and both pairs of lists have room, both readings have the same length and starts of epilogues,
+/// and codes that mean the same one by one.
 pub fn read_both_forms(
     word: u64,
     xdata: &[u8],
@@ -174,10 +177,10 @@ fn is_defined(word: u32) -> bool
     (flag == 1 || flag == 2) && Word::of(u64::from(word)).ok()
 }
 
-/// How far down the prologue of a packed word moves the stack pointer, in bytes: the sum over its codes, which is 16 times FrameSize. None where the
-/// word is not packed or the page does not define it.
+/// How far down the prologue of a packed word moves the stack pointer, in bytes: the sum over its codes,
+/// which is 16 times FrameSize. None where the word is not packed or the page does not define it.
 pub fn packed_down(word: u32) -> Option<u64>
-    ensures sum { result ≡ option_of (packed_down word) }
+    ensures sum { result ≡ number_in (packed_down word) }
     ensures frame { is_defined word ≡ true → result ≡ Some (16 * (packed_of word).frame) }
 {
     if !is_defined(word) {

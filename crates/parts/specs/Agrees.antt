@@ -38,7 +38,7 @@ HeaderReading section r (some f) = HeaderReads section f r
 -- of a header at a place, with a word and a kind that the reader takes
 pub record HeaderTaken (section : List ℕ) (kind word place : ℕ) (r : HeaderRead) : Type 0 where
   pub agrees :
-    (e : Entry) → T (is_word_size word && leb kind 1) → entry_at (eqb kind 1) section place ≡ good e → e.header ≡ true
+      (e : Entry) → T (is_word_size word && leb kind 1) → entry_at (eqb kind 1) section place ≡ good e → e.header ≡ true
       → HeaderReading section r (parse_header (eqb kind 1) word (part section (e.place + 4) e.next))
   pub named : Named r.number r.«field»
 
@@ -57,6 +57,6 @@ RecordReading section r (some f) = RecordReads section f r
 -- of a record at a place, with the size of the pointer to call sites that its header says
 pub record RecordTaken (section : List ℕ) (kind word pointer place : ℕ) (r : RecordRead) : Type 0 where
   pub agrees :
-    (e : Entry) → T (is_word_size word && leb kind 1) → entry_at (eqb kind 1) section place ≡ good e → e.header ≡ false
+      (e : Entry) → T (is_word_size word && leb kind 1) → entry_at (eqb kind 1) section place ≡ good e → e.header ≡ false
       → RecordReading section r (parse_record (eqb kind 1) word pointer (part section (e.place + 4) e.next))
   pub named : Named r.number r.«field»

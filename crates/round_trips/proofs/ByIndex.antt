@@ -8,12 +8,12 @@ use mathlib.Core.List.{List}
 use lib.Dec.{T, leb, eqb, leb→le}
 use lib.ListN.{length, take, get_or}
 use lib.Seq.{get_or-take}
-use Rattle.std.specs.Prelude.{Ok, Err}
+use Rattle.std.specs.Prelude.{Err}
 use Rattle.format.specs.Prelude.{pick, Result, good, bad, onward, or_else}
 use Rattle.format.specs.Put.{put}
-use Rattle.format.specs.Coded.{result_of, Reading}
+use Rattle.format.specs.Coded.{result_of}
 use Rattle.format.specs.Lists.{relocations_of}
-use Rattle.format.specs.Answers.{mark_of, reading_numbers, marked_numbers}
+use Rattle.format.specs.Answers.{mark_of, marked_numbers}
 use Rattle.format.specs.Reader.{Entry, entries, records, read, shortest_at}
 use Rattle.format.proofs.PutLaws.{length-put, front_is}
 use Rattle.reader.specs.Finds.{shortest_from}

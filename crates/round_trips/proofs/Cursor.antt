@@ -1,13 +1,12 @@
 -- A pass with the reader's cursor: what stands at it is the first of the entries that the reader means from there on.
 use mathlib.Core.Path.{◌≡◌, refl, sym, ap, ◌∙◌}
-use mathlib.Core.Bool.{Bool, true, false}
+use mathlib.Core.Bool.{Bool}
 use mathlib.Core.Option.{Option, none, some}
 use mathlib.Core.List.{List, [], ◌∷◌}
-use Prim.Native.Nat.{ℕ, ◌+◌, ◌-◌, ◌*◌, ◌/◌, ◌≤◌, ◌<◌}
+use Prim.Native.Nat.{ℕ, ◌+◌, ◌*◌, ◌/◌, ◌≤◌, ◌<◌}
 use native.Mathlib.Omega.{arith}
-use native.Mathlib.Nat.{add-zero}
 use borrow.Author.Tests.{le-leb, lt-leb}
-use lib.Dec.{T, leb, eqb, eqb→eq}
+use lib.Dec.{T, leb, eqb}
 use lib.ListN.{length, set, length-set}
 use Rattle.std.specs.Prelude.{Some, None, Ok, Err}
 use Rattle.std.specs.Prelude as code
@@ -15,21 +14,20 @@ use Rattle.format.specs.Prelude.{pick, after, Result, good, bad, onward, or_else
 use Rattle.format.specs.Coded.{result_of, numbered}
 use Rattle.format.specs.Numbers.{number_of}
 use Rattle.format.specs.declared.question.Question.{Question}
-use Rattle.format.specs.declared.question.Question.TheVariants as Question
 use Rattle.format.specs.Answers.{bit}
 use Rattle.format.specs.Put.{put}
 use Rattle.format.specs.Questions.{is_some}
 use Rattle.format.specs.Reader.{entries, is_header}
 use Rattle.format.specs.Reader as format
 use Rattle.format.proofs.Choice.{either}
-use Rattle.format.proofs.PutLaws.{put_cons, length-put}
+use Rattle.format.proofs.PutLaws.{put_cons}
 use Rattle.reader.specs.Spans.{part, entry_in, entries_from, listed, end_at}
 use Rattle.reader.specs.Listing.{shown, entry_at}
 use Rattle.reader.specs.declared.cursor.Entry.{Entry}
 use Rattle.reader.proofs.Tiling.{Entered, entered, tiled_end, tiled_none, tiled_more}
 use Rattle.reader.proofs.Seeking.{answer_is, answer_no}
 use Rattle.reader.proofs.Steps.{spanned, shown_span, at_end_lem, at_none, at_there}
-use Rattle.round_trips.specs.Entries.{entry_stride, all_numbers, counted, entries_listed, count_of, list_after, ListsEntries}
+use Rattle.round_trips.specs.Entries.{all_numbers, counted, entries_listed, count_of, list_after, ListsEntries}
 
 module _ (debug : Bool) (s : List ℕ) where
   -- ---- what stands at a position

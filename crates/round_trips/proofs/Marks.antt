@@ -1,11 +1,10 @@
 -- What a writer wrote is spelled shortest wherever the reader reads it.
 use mathlib.Core.Path.{◌≡◌, refl, sym, ap, ◌∙◌}
 use Prim.Native.Nat.{ℕ, ◌*◌}
-use native.Mathlib.Omega.{arith}
 use mathlib.Core.Bool.{Bool, true, false}
-use mathlib.Core.List.{List, [], ◌∷◌, ◌++◌}
+use mathlib.Core.List.{List, [], ◌∷◌}
 use lib.Dec.{eqb→eq}
-use lib.ListN.{length, take, drop, get_or}
+use lib.ListN.{take, drop, get_or}
 use lib.Seq.{drop_at}
 use Rattle.std.specs.Prelude.{Ok, Err}
 use Rattle.format.specs.Prelude.{pick}

@@ -1,5 +1,5 @@
 -- No question of the reader or of the index has the number 0.
-use mathlib.Core.Path.{◌≡◌, sym, ap, ◌∙◌}
+use mathlib.Core.Path.{◌≡◌}
 use mathlib.Core.Bool.{Bool, true, false, ◌&&◌}
 use mathlib.Core.Option.{Option, none, some}
 use mathlib.Core.List.{List, [], ◌∷◌}
@@ -7,18 +7,17 @@ use Prim.Native.Nat.{ℕ, zero, suc, ◌+◌}
 use native.Mathlib.Omega.{arith}
 use lib.Dec.{leb, ltb, eqb}
 use lib.ListN.{length, get_elem?}
-use Rattle.std.specs.Prelude.{Ok, Err}
+use Rattle.std.specs.Prelude.{Err}
 use Rattle.format.specs.Prelude.{pick, Read, after, Result, good, bad, onward, or_else}
 use Rattle.format.specs.declared.Operation.{Operation}
 use Rattle.format.specs.declared.Operation.TheVariants.{Nop, Step, Does}
 use Rattle.format.specs.declared.Row.{Row}
 use Rattle.format.specs.declared.Rule.{Rule}
-use Rattle.format.specs.Coded.{Reading}
 use Rattle.format.specs.Lists.{Relocation, relocations_of}
 use Rattle.format.specs.Machine.{is_word_size}
 use Rattle.format.specs.Rows.{read_operation}
 use Rattle.format.specs.Rules.{State, blank, apply, refusal, unless_refused, act, answer, seen}
-use Rattle.format.specs.Reader.{Entry, Found, entries, records, header_place, header_at, header_short, record_short, parse_header, parse_record, parsed, locate, perform, when_read, run_f, run, run_to, read_section, read}
+use Rattle.format.specs.Reader.{Entry, Found, entries, records, header_place, header_at, parse_header, parse_record, parsed, locate, perform, when_read, run_f, run, run_to, read_section, read}
 use Rattle.listing.proofs.Saying as refusals
 use Rattle.listing.proofs.Saying.{refusal_not_zero}
 use Rattle.reads.specs.Places.{asked}

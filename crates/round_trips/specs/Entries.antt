@@ -41,6 +41,6 @@ list_after debug (bad n) old = old
 
 -- the entries are counted, and stored in a lent list
 pub record ListsEntries (debug : Bool) (a : Result (List Entry)) (r : code.Result ℕ Question) (old new : List ℕ) : Type 0
-    where
-  pub answered : numbered r ≡ result_of (count_of a)
-  pub stored : new ≡ list_after debug a old
+  where
+    pub answered : numbered r ≡ result_of (count_of a)
+    pub stored : new ≡ list_after debug a old

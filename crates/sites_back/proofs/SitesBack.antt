@@ -35,7 +35,7 @@ use Rattle.format.proofs.Accepted.{dwarf_written, Accepted, accepted_is, taken_a
 use Rattle.dwarf.proofs.Bounds.{sites_most}
 use Rattle.dwarf.proofs.Passed.{all_counted}
 use Rattle.reader.specs.Spans.{listed}
-use Rattle.sites_back.specs.Back.{SiteFits, pointer_field, TableOf}
+use Rattle.sites_back.specs.Back.{SitesFit, pointer_field, TableOf}
 use Rattle.sites_back.proofs.TableBack.{place_back, place_shortest}
 
 -- ---- a table's place among the call-site bytes
@@ -209,7 +209,7 @@ with_tail s table rest tail place e h =
     drop-append-le place s tail l ∙ ap (λ b. b ++ tail) e ∙ append_assoc table rest tail
 
 module _ (g : Given) (w : Written) (a : Accepted Elf g w) (k : ℕ) (h : k < count function_stride g.functions) (l : Landing) (ls : List Landing)
-    (x : (given_function g k).landings ≡ l ∷ ls) (fits : Each SiteFits (l ∷ ls)) where
+    (x : (given_function g k).landings ≡ l ∷ ls) (fits : SitesFit (l ∷ ls)) where
   abbrev m : Machine
   m = machine_of g.machine
 
@@ -245,12 +245,12 @@ module _ (g : Given) (w : Written) (a : Accepted Elf g w) (k : ℕ) (h : k < cou
       }
 
 by_landings : (g : Given) (w : Written) → Accepted Elf g w → (k : ℕ) → k < count function_stride g.functions → (ls : List Landing)
-    → (given_function g k).landings ≡ ls → ls ≢ [] → Each SiteFits ls → TableOf w k ls
+    → (given_function g k).landings ≡ ls → ls ≢ [] → SitesFit ls → TableOf w k ls
 by_landings g w a k h [] x n fits = absurd (n refl)
 by_landings g w a k h (l ∷ ls) x n fits = table_of g w a k h l ls x fits
 
 -- Where eh_frame's writer accepts, the record of function k, which has landings whose ends fit 64 bits, points to the symbol of the call
 -- sites, and what is read at the relocation's addend are the landings, in order.
 pub sites_back : (g : Given) (r : Room) (w : Written) → dwarf_written Elf g r ≡ accepted w → (k : ℕ) → k < count function_stride g.functions
-    → (given_function g k).landings ≢ [] → Each SiteFits (given_function g k).landings → TableOf w k (given_function g k).landings
+    → (given_function g k).landings ≢ [] → SitesFit (given_function g k).landings → TableOf w k (given_function g k).landings
 sites_back g r w e k h n fits = by_landings g w (accepted_is Elf g r w e) k h (given_function g k).landings refl n fits

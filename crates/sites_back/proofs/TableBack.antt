@@ -15,11 +15,10 @@ use Rattle.format.specs.Reader.{read_many, read_counted}
 use Rattle.format.specs.CallSiteReader.{site_of, read_site, read_sites_f, read_sites, head_ok, read_table, sites_at, entries_short, sites_short}
 use Rattle.format.specs.Shortest.{unsigned, read_mark, marked, numbers_short, every_short_f, every_short}
 use Rattle.format.proofs.Choice.{if-le, if-gt, either}
-use Rattle.format.proofs.Each.{Each}
 use Rattle.format.proofs.LebBack.{uleb_back}
 use Rattle.format.proofs.ShortBack.{unsigned_short, unsigned_then}
 use Rattle.call_sites.proofs.Runs.{sites_step}
-use Rattle.sites_back.specs.Back.{SiteFits}
+use Rattle.sites_back.specs.Back.{SiteFits, SitesFit}
 
 uleb_some : (n : ℕ) → 0 < length (uleb n)
 unfolding uleb uleb_f
@@ -48,7 +47,7 @@ site_back l rest f =
 
 -- ---- the entries
 
-sites_back_f : (fuel : ℕ) (ls : List Landing) → Each SiteFits ls → length (sites_bytes ls) < fuel → read_sites_f fuel (sites_bytes ls) ≡ some ls
+sites_back_f : (fuel : ℕ) (ls : List Landing) → SitesFit ls → length (sites_bytes ls) < fuel → read_sites_f fuel (sites_bytes ls) ≡ some ls
 unfolding sites_bytes read_sites_f next after
 sites_back_f zero ls f h = absurd (omega arith)
 sites_back_f (suc n) [] f h = refl
@@ -58,7 +57,7 @@ sites_back_f (suc n) (l ∷ ls) f h =
     sites_step (suc n) (site_bytes l ++ sites_bytes ls) (omega arith) (omega (arith, site_some l))
     ∙ rw (site_back l (sites_bytes ls) f.0, e, sites_back_f n ls f.1 (omega (arith, site_some l)))
 
-pub sites_back : (ls : List Landing) → Each SiteFits ls → read_sites (sites_bytes ls) ≡ some ls
+pub sites_back : (ls : List Landing) → SitesFit ls → read_sites (sites_bytes ls) ≡ some ls
 unfolding read_sites
 sites_back ls f = sites_back_f (suc (length (sites_bytes ls))) ls f (omega arith)
 
@@ -72,7 +71,7 @@ table_back ls rest h =
     rw (append_assoc (uleb n) (sites_bytes ls) rest, uleb_back n (sites_bytes ls ++ rest) h, if-le n (length (sites_bytes ls ++ rest)), take_at (sites_bytes ls) rest n refl)
 
 -- a table that stands at a place reads as its landings
-pub place_back : (s : List ℕ) (place : ℕ) (ls : List Landing) (rest : List ℕ) → drop place s ≡ site_table ls ++ rest → Each SiteFits ls
+pub place_back : (s : List ℕ) (place : ℕ) (ls : List Landing) (rest : List ℕ) → drop place s ≡ site_table ls ++ rest → SitesFit ls
     → length (sites_bytes ls) < 2 ^ 64 → sites_at s place ≡ good ls
 unfolding sites_at onward or_else
 place_back s place ls rest e f h = rw (e, table_back ls rest h, sites_back ls f)
@@ -88,7 +87,7 @@ next_short (suc f) (b ∷ bs) rest e h = rw e (h f)
 uleb_before : (n : ℕ) (rest : List ℕ) → n < 2 ^ 64 → ((g : ℕ) → every_short_f g rest ≡ true) → (f : ℕ) → every_short_f f (uleb n ++ rest) ≡ true
 uleb_before n rest l h f = next_short f (uleb n ++ rest) rest (unsigned_short n rest l) h
 
-every_shortest : (ls : List Landing) → Each SiteFits ls → (f : ℕ) → every_short_f f (sites_bytes ls) ≡ true
+every_shortest : (ls : List Landing) → SitesFit ls → (f : ℕ) → every_short_f f (sites_bytes ls) ≡ true
 unfolding sites_bytes site_bytes every_short_f
 every_shortest [] fits zero = refl
 every_shortest [] fits (suc f) = refl
@@ -102,7 +101,7 @@ every_shortest (l ∷ ls) fits f =
     f)
 
 -- a table that stands at a place has its numbers shortest
-pub place_shortest : (s : List ℕ) (place : ℕ) (ls : List Landing) (rest : List ℕ) → drop place s ≡ site_table ls ++ rest → Each SiteFits ls
+pub place_shortest : (s : List ℕ) (place : ℕ) (ls : List Landing) (rest : List ℕ) → drop place s ≡ site_table ls ++ rest → SitesFit ls
     → length (sites_bytes ls) < 2 ^ 64 → sites_short s place ≡ true
 unfolding sites_short entries_short every_short site_table numbers_short
 place_shortest s place ls rest e fits h =

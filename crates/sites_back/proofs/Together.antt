@@ -18,7 +18,6 @@ use Rattle.format.specs.CallSiteReader.{sites_at, site_at, sites_short, answer_n
 use Rattle.std.specs.Prelude as code
 use Rattle.call_sites.specs.declared.Listed.{Listed}
 use Rattle.call_sites.specs.Listed.{list_at, listed_of, sites_stored}
-use Rattle.format.proofs.Each.{Each}
 use Rattle.format.proofs.Choice.{if-le}
 use Rattle.format.proofs.Accepted.{dwarf_written}
 use Rattle.format.proofs.ListLaws.{relocations_back}
@@ -26,7 +25,7 @@ use Rattle.format.proofs.PutLaws.{front_is}
 use Rattle.unwind.specs.Together.{answer_for, bytes_in, relocs_in}
 use Rattle.unwind.proofs.Fitting.{answer_fits}
 use Rattle.unwind.proofs.Fronts.{bytes_of, relocs_of, Fronts, fronts}
-use Rattle.sites_back.specs.Back.{SiteFits, table_place, place_in, written_place, WasWritten, site_answer, list_answer, TableOf, ReadBack, LandingsBack}
+use Rattle.sites_back.specs.Back.{SitesFit, table_place, place_in, written_place, WasWritten, site_answer, list_answer, TableOf, ReadBack, LandingsBack}
 use Rattle.sites_back.proofs.SitesBack.{sites_back}
 
 -- the relocation that the law speaks of gives the place
@@ -52,7 +51,7 @@ module _ (g : Given) (p b q s : List ℕ) {o : Outcome} {p' b' q' s' : List ℕ}
 
   -- what stands at the place that function k's record names, where the list was accepted and function k has landings whose ends fit 64 bits
   module _ (k : ℕ) {place : ℕ} (at : place ≡ written_place o b' q' k) (w : Written) (e : relaxed_table elf g (room_in p b q s) ≡ accepted w)
-      (h : k < count function_stride g.functions) (has : (given_function g k).landings ≢ []) (fits : Each SiteFits (given_function g k).landings) where
+      (h : k < count function_stride g.functions) (has : (given_function g k).landings ≢ []) (fits : SitesFit (given_function g k).landings) where
     table : TableOf w k (given_function g k).landings
     unfolding dwarf_written
     table = sites_back g (room_in p b q s) w e k h has fits

@@ -12,7 +12,6 @@ use Rattle.format.specs.Writer.{Written}
 use Rattle.format.specs.Questions.{Given, Answer, accepted, given_function}
 use Rattle.format.specs.Reader.{Entry, entries, records, first_addend}
 use Rattle.format.specs.CallSiteReader.{sites_at, site_at, covers, sites_short, site_numbers, marked_site}
-use Rattle.format.proofs.Each.{Each}
 use Rattle.reader.specs.Spans.{listed}
 use Rattle.unwind.specs.Together.{bytes_in, relocs_in}
 use Rattle.call_sites.specs.declared.Listed.{Listed}
@@ -22,6 +21,11 @@ use Rattle.call_sites.specs.Listed.{site_stride, all_numbers, list_at, listed_of
 pub record SiteFits (l : Landing) : Type 0 where
   pub end : l.start + l.size < 2 ^ 64
   pub pad : l.pad < 2 ^ 64
+
+-- each landing is one
+abbrev pub SitesFit : List Landing → Type 0
+SitesFit [] = Unit {0}
+SitesFit (l ∷ ls) = SiteFits l × SitesFit ls
 
 -- A record's pointer to call sites stands 17 bytes behind its start: 4 each for the entry's length, the distance, the function's place and
 -- its length, and one for the augmentation's length (LSB, .eh_frame).
@@ -70,11 +74,11 @@ pub record TableOf (w : Written) (k : ℕ) (ls : List Landing) : Type 0 where
 abbrev pub ReadBack : Given → Answer → (k offset : ℕ) → List ℕ → Type 0
 ReadBack g a k offset ns =
     (w : Written) → a ≡ accepted w → k < count function_stride g.functions → (given_function g k).landings ≢ []
-    → Each SiteFits (given_function g k).landings → ns ≡ site_numbers (first (covers offset) (given_function g k).landings) ++ (1 ∷ [])
+    → SitesFit (given_function g k).landings → ns ≡ site_numbers (first (covers offset) (given_function g k).landings) ++ (1 ∷ [])
 
 -- all sites of function k's table: its landings in order, in a lent list that has room for them, and their numbers spelled shortest
 abbrev pub LandingsBack : Given → Answer → (k : ℕ) → code.Result Listed ℕ → (old new : List ℕ) → Type 0
 LandingsBack g a k r old new =
     let ls : List Landing = (given_function g k).landings in
-    (w : Written) → a ≡ accepted w → k < count function_stride g.functions → ls ≢ [] → Each SiteFits ls → site_stride * length ls ≤ length old
+    (w : Written) → a ≡ accepted w → k < count function_stride g.functions → ls ≢ [] → SitesFit ls → site_stride * length ls ≤ length old
     → (r ≡ Ok (record { sites = length ls; shortest = true })) × (new ≡ put old 0 (all_numbers ls))

@@ -172,10 +172,10 @@ module _ (s : Section) (debug : Bool) (g : Given) (w : Written) (a : Answer) (o 
         record {
           by_visited = λ all. by_rows_lem (by_rows_visited s g r w y file pc stack placed (length old) all);
           by_listed = λ ended all.
-          by_rows_lem
-          (by_section_visited s g r w y file pc stack placed (length old)
-          (listed_visited (Placing g placed) old new x (visited source g.machine file pc stack placed) (walk_by source g.machine file pc stack placed (length old))
-          (walk_lists source g.machine file pc stack placed (length old)) (rw z at n) (rw z at q) ended all));
+              by_rows_lem
+              (by_section_visited s g r w y file pc stack placed (length old)
+              (listed_visited (Placing g placed) old new x (visited source g.machine file pc stack placed) (walk_by source g.machine file pc stack placed (length old))
+              (walk_lists source g.machine file pc stack placed (length old)) (rw z at n) (rw z at q) ended all));
         }
 
 pub walks_back : (debug : Bool) (format : ℕ) (g : Given) (r : Room) (o : Outcome) (bytes relocations file : List ℕ) (pc stack : ℕ) (placed old : List ℕ) (x : code.Answer) (new : List ℕ)

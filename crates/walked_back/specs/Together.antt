@@ -48,10 +48,10 @@ pub record ByRows (g : Given) (file : List ℕ) (pc stack : ℕ) (placed old : L
 pub record WalkedBack (g : Given) (file : List ℕ) (pc stack : ℕ) (placed old : List ℕ) (a : Answer) (new : List ℕ)
     : Type 0 where
   pub by_visited :
-    All (Placing g placed) (visited (by_rows g) g.machine file pc stack placed)
+      All (Placing g placed) (visited (by_rows g) g.machine file pc stack placed)
       → ByRows g file pc stack placed old a new
   pub by_listed :
-    0 < a.ending → ((i : ℕ) → i < a.frames → Placing g placed (field 2 new i 0))
+      0 < a.ending → ((i : ℕ) → i < a.frames → Placing g placed (field 2 new i 0))
       → ByRows g file pc stack placed old a new
 
 -- where the list was accepted for DWARF output

@@ -3,7 +3,7 @@ use mathlib.Core.Path.{◌≡◌, sym, ap, subst, ◌∙◌}
 use Prim.Native.Nat.{ℕ, ◌*◌}
 use native.Mathlib.Omega.{arith}
 use Rattle.std.specs.Prelude.{Some}
-use Rattle.format.proofs.Asked.{option_of}
+use Rattle.arm64_back.specs.Down.{number_in}
 use Rattle.arm64.specs.declared.Part.TheVariants.{Prologue}
 use Rattle.arm64.specs.declared.Packed.{Packed}
 use Rattle.arm64.specs.Packed.{packed_of, slot_at}
@@ -11,7 +11,7 @@ use Rattle.arm64_back.proofs.Down.{slots_down, next_down, no_more, not_defined, 
 use Rattle.arm64_back.proofs.packed_down.Goals as goal
 
 pub returns-then-not-is_defined-clause-sum : goal.returns-then-not-is_defined-clause-sum
-returns-then-not-is_defined-clause-sum c = sym (ap option_of (not_defined c.args.word (sym c.is_defined.ensures ∙ c.if-not-is_defined.true)))
+returns-then-not-is_defined-clause-sum c = sym (ap number_in (not_defined c.args.word (sym c.is_defined.ensures ∙ c.if-not-is_defined.true)))
 
 pub overflow_add-down : goal.overflow_add-down
 overflow_add-down c =
@@ -47,6 +47,6 @@ returns c =
     let down : c.loop-i.down ≡ 16 * (packed_of c.args.word).frame =
     omega (arith, c.loop-i.invariant, no_more (slot_at Prologue p) c.loop-i.i c.loop-i-test.false, all) in
     record {
-      sum = ap (λ (n : ℕ). Some n) down ∙ sym (ap option_of (packed_frame c.args.word yes));
+      sum = ap (λ (n : ℕ). Some n) down ∙ sym (ap number_in (packed_frame c.args.word yes));
       frame = λ t. ap (λ (n : ℕ). Some n) down;
     }

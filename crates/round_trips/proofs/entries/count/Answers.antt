@@ -1,5 +1,5 @@
 -- `round_trips::entries::count` meets its contract.
-use Rattle.std.proofs.Common.{◌≡◌, ◌<◌, length, refl, ap, sym, ◌∙◌, arith}
+use Rattle.std.proofs.Common.{refl, ap, arith}
 use Rattle.std.proofs.lemmas.Result.{err_from_is_err_and}
 use Rattle.format.specs.Coded.{result_of}
 use Rattle.format.specs.Prelude.{Result}

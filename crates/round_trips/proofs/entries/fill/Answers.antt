@@ -1,5 +1,5 @@
 -- `round_trips::entries::fill` meets its contract.
-use Rattle.std.proofs.Common.{◌≡◌, refl, ap, sym, ◌∙◌, arith, rules, length-set}
+use Rattle.std.proofs.Common.{refl, ◌∙◌, arith, length-set}
 use Rattle.format.proofs.Bits.{flag_number}
 use Rattle.round_trips.proofs.Cursor.{gave, refused, filling, room_for, filled_one, filled_all}
 use Rattle.round_trips.proofs.entries.fill.Goals as goal

@@ -1,5 +1,5 @@
 -- `round_trips::entries::list_entries` meets its contract.
-use Rattle.std.proofs.Common.{◌≡◌, ap, sym, ◌∙◌, arith, rules}
+use Rattle.std.proofs.Common.{ap, sym, ◌∙◌}
 use Rattle.std.proofs.lemmas.Result.{err_from_is_err_and}
 use Rattle.format.specs.Coded.{numbered}
 use Rattle.round_trips.proofs.Cursor.{unkinded, untiled, roomless, room, listed_all}

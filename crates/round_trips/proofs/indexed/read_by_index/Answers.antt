@@ -1,5 +1,5 @@
 -- `round_trips::indexed::read_by_index` meets its contract.
-use Rattle.std.proofs.Common.{◌≡◌, ◌*◌, ◌+◌, ◌^◌, ◌<◌, length, rules, sym, ◌∙◌, arith}
+use Rattle.std.proofs.Common.{◌^◌, ◌<◌, length, rules, ◌∙◌, arith}
 use Rattle.round_trips.proofs.ByIndex.{unindexed, inside, behind, located}
 use Rattle.round_trips.proofs.indexed.read_by_index.Goals as goal
 
