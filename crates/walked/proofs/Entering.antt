@@ -95,7 +95,7 @@ module _ (src : Source) (ms file : List ℕ) (pc stack : ℕ) (functions : List 
   unfolding walk_by onward or_else
   with_file e = rw (← e) (moved (machine_ok ms) (eqb (machine_of ms).word 8) _)
 
-same_picked : (b : Bool) → pick b [] [] ≡ [] {A = Frame}
+same_picked : (b : Bool) → ◌≡◌ {A = List Frame} (pick b [] []) []
 unfolding pick
 same_picked true = refl
 same_picked false = refl
@@ -119,6 +119,11 @@ Answers r ns old new = (ns ≡ chain_numbers r) × (new ≡ chain_stored r old)
 pub refuses : {r : Result walk.Chain} {n : ℕ} {ns old : List ℕ} → r ≡ bad n → ns ≡ n ∷ 0 ∷ 0 ∷ [] → Answers r ns old old
 unfolding chain_numbers chain_stored
 refuses e h = (h ∙ rw e, rw e)
+
+-- a walk that is refused in front of every frame
+pub refused_walk : (w : Walked) (room : ℕ) {q : Question} → w.ending ≡ Err q → bad (number_of q) ≡ onward (walked_of w) (fitting room)
+unfolding onward
+refused_walk w room e = rw e refl
 
 -- what the export that lists what was found answers, and leaves in the lent list
 abbrev pub Finds : Walked → (old ns new : List ℕ) → Type 0
@@ -186,3 +191,7 @@ module _ (w : Walked) (old : List ℕ) where
 -- the answer of the walk that was made, as the walk of the definition
 pub answers_as : {x y r : Result walk.Chain} (f : walk.Chain → Result walk.Chain) (old : List ℕ) {ns new : List ℕ} → x ≡ y → r ≡ onward y f → Answers (onward x f) ns old new → Answers r ns old new
 answers_as f old e d h = rw (d, ← e) h
+
+pub finds_as : {r : Result walk.Chain} {fs : List Frame} (w : Walked) (old : List ℕ) {ns new : List ℕ} → r ≡ onward (walked_of w) (fitting (length old)) → w.frames.items ≡ fs
+    → Finds w old ns new → (ns ≡ found_numbers r (length (that_fit (length old) fs))) × (new ≡ put old 0 (frame_numbers (that_fit (length old) fs)))
+finds_as w old e f h = rw (e, ← f) h

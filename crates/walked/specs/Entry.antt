@@ -1,9 +1,10 @@
--- What the export of the walk answers, and what it leaves in the lent list (document 02, W-202).
+-- What the export of the walk answers, and what it leaves in the lent list (docs/SPECIFICATION.md, Walk).
 use Rattle.std.specs.Prelude.{ℕ, ◌/◌, List, [], ◌∷◌, length, leb}
 use Rattle.format.specs.Prelude.{pick, Result, good, bad}
 use Rattle.format.specs.Put.{put}
 use Rattle.walk.specs.declared.Frame.{Frame}
-use Rattle.walk.specs.Walk.{Chain, frame_numbers}
+use Rattle.walk.specs.Walk.{Source, Chain, frame_numbers, walk_by}
+use Rattle.walk.specs.Found.{found}
 use Rattle.walked.specs.declared.Answer.{Answer}
 
 -- its numbers, in the order of include/dekvoz.h
@@ -30,3 +31,13 @@ that_fit room fs = pick (leb (length fs) (room / 2)) fs []
 unfoldable pub found_numbers : Result Chain → (stored : ℕ) → List ℕ
 found_numbers (good c) k = 0 ∷ k ∷ c.ending ∷ []
 found_numbers (bad n) k = n ∷ k ∷ 0 ∷ []
+
+-- what the export answers, and what it leaves in the lent list
+unfoldable pub found_answer : Source → (machine file : List ℕ) → (pc stack : ℕ) → (functions : List ℕ) → (room : ℕ) → List ℕ
+found_answer source machine file pc stack functions room =
+    found_numbers (walk_by source machine file pc stack functions room)
+    (length (that_fit room (found source machine file pc stack functions)))
+
+unfoldable pub found_left : Source → (machine file : List ℕ) → (pc stack : ℕ) → (functions old : List ℕ) → List ℕ
+found_left source machine file pc stack functions old =
+    put old 0 (frame_numbers (that_fit (length old) (found source machine file pc stack functions)))

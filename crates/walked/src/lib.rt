@@ -11,7 +11,7 @@ ghost use Rattle.format.specs.declared.Rule.TheVariants.{Unstated};
 ghost use Rattle.walk.specs.Walk.{left_by, left_from, left, returned_to, caller_of, frames_f, frame_numbers, fitting, walk_by, by_section};
 ghost use Rattle.walk.specs.Found.{found_f, found};
 ghost use Rattle.walk.specs.Standing.{memory_of, slots, left_of, caller_as, step_of};
-ghost use Rattle.walked.specs.Entry.{numbers_of, chain_numbers, chain_stored, found_numbers, that_fit};
+ghost use Rattle.walked.specs.Entry.{numbers_of, chain_numbers, chain_stored, found_numbers, that_fit, found_answer, found_left};
 ghost use Rattle.walked.specs.Named.{names, operation_names, Marked, MarkedAll, MarksIn};
 ghost use Rattle.walked.specs.Standing.{rules_at, ruled_at, source_at, section_of, all_left, walked_of, fault_of};
 ghost use Rattle.walked.specs.Faults.{fault_by};
@@ -428,8 +428,8 @@ pub extern "C" fn unwind_walk_found(
     functions: &[u64],
     frames: &mut [u64],
 ) -> Answer
-    ensures result_value { numbers_of result ≡ found_numbers (walk_by (by_section section.now relocations.now kind) machine.now file.now pc stack functions.now (length frames.old)) (length (that_fit (length frames.old) (found (by_section section.now relocations.now kind) machine.now file.now pc stack functions.now))) }
-    ensures frames_after { frames.new ≡ put frames.old 0 (frame_numbers (that_fit (length frames.old) (found (by_section section.now relocations.now kind) machine.now file.now pc stack functions.now))) }
+    ensures result_value { numbers_of result ≡ found_answer (by_section section.now relocations.now kind) machine.now file.now pc stack functions.now (length frames.old) }
+    ensures frames_after { frames.new ≡ found_left (by_section section.now relocations.now kind) machine.now file.now pc stack functions.now frames.old }
 {
     let from = Section {
         bytes: section,
