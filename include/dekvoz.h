@@ -362,6 +362,14 @@ unwind_chain unwind_walk(
     uint64_t kind, uint64_t pc, uint64_t stack, const uint64_t *functions, size_t functions_n,
     uint64_t *frames, size_t frames_n);
 
+/* As unwind_walk, and where a frame is refused, the frames that were found up to it, that one too: `number` is the refusal's, `frames`
+ * counts those that stand at the front of the lent list (0 where it has no room for all of them), and `ending` is 0. */
+unwind_chain unwind_walk_found(
+    const uint64_t *machine, size_t machine_n, const uint8_t *record, size_t record_n,
+    const uint8_t *section, size_t section_n, const uint64_t *relocations, size_t relocations_n,
+    uint64_t kind, uint64_t pc, uint64_t stack, const uint64_t *functions, size_t functions_n,
+    uint64_t *frames, size_t frames_n);
+
 /* What the check of a section answers: `number` is 0, or 11 for the word, then 61, then 84 with the first record that does not pass,
  * counted from 0. record is 0 otherwise. */
 typedef struct {

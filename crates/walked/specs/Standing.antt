@@ -16,7 +16,9 @@ use Rattle.walked.specs.declared.Section.{Section}
 use Rattle.format.specs.Numbers.{number_of}
 use Rattle.format.specs.declared.question.Question.{Question}
 use Rattle.walked.specs.Endings.{ending_number}
-use Rattle.walked.specs.declared.chain.Chain.{Chain}
+use Rattle.walk.specs.declared.Frame.{Frame}
+use Rattle.walked.specs.declared.chain.Ending.{Ending}
+use Rattle.walked.specs.declared.chain.Walked.{Walked}
 
 unfoldable pub state_in : List ℕ → Located → (p : ℕ) → Result State
 state_in s l p = pick (in_section s l) (run_to l.word p (found s l)) (bad 64)
@@ -63,9 +65,12 @@ all_left (Err q) = bad (number_of q)
 
 -- ---- the frames
 
-abbrev pub walked_of : code.Result Chain Question → Result walk.Chain
-walked_of (Ok c) = good (record { frames = c.frames.items; ending = ending_number c.ending })
-walked_of (Err q) = bad (number_of q)
+abbrev pub chain_as : List Frame → code.Result Ending Question → Result walk.Chain
+chain_as fs (Ok e) = good (record { frames = fs; ending = ending_number e })
+chain_as fs (Err q) = bad (number_of q)
+
+abbrev pub walked_of : Walked → Result walk.Chain
+walked_of w = chain_as w.frames.items w.ending
 
 abbrev pub fault_of : Machine → Memory → (functions : List ℕ) → Fault
 fault_of m memory functions = record { machine = m; memory = memory; functions = placed_of functions }

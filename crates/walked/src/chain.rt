@@ -1,8 +1,9 @@
 // The frames of a walk, and why it ended.
-ghost use Rattle.std.specs.Prelude.{◌≡◌};
+ghost use Rattle.std.specs.Prelude.{◌≡◌, []};
 ghost use Rattle.walked.specs.Endings.{ending_number};
 
 use arrayvec::ArrayVec;
+use format::Question;
 use walk::Frame;
 
 // Why a walk ended.
@@ -25,9 +26,21 @@ impl Ending {
     }
 }
 
-// Up to 64 frames.
+// The frames that a walk found, up to 64, and why it ended, or by which question it was refused.
 #[derive(Drop)]
-pub struct Chain {
+pub struct Walked {
     pub frames: ArrayVec<Frame, 64>,
-    pub ending: Ending,
+    pub ending: Result<Ending, Question>,
+}
+
+impl Walked {
+    // Refused in front of every frame.
+    pub fn refused(question: Question) -> Walked
+        ensures { (result.frames.items ≡ []) × (result.ending ≡ Err question) }
+    {
+        Walked {
+            frames: ArrayVec::new(),
+            ending: Err(question),
+        }
+    }
 }

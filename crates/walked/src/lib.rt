@@ -1,20 +1,22 @@
 // The walk by a section (request W-202): the rules of each frame come from the reader.
 #![tactic(auto)]
 
-ghost use Rattle.std.specs.Prelude.{◌≡◌, true, false, [], ◌∷◌, ◌<◌, ◌≤◌, T, eqb, length, take, drop};
+ghost use Rattle.std.specs.Prelude.{◌≡◌, ℕ, true, false, [], ◌∷◌, ◌<◌, ◌≤◌, ◌&&◌, T, eqb, length, take, drop};
+ghost use Rattle.format.specs.Put.{put};
 ghost use Rattle.format.specs.Prelude.{pick, bad, onward};
 ghost use Rattle.format.specs.Numbers.{number_of};
 ghost use Rattle.format.specs.Machine.{is_word_size, machine_ok, machine_of};
 ghost use Rattle.format.specs.Rules.{rules_for};
 ghost use Rattle.format.specs.declared.Rule.TheVariants.{Unstated};
-ghost use Rattle.walk.specs.Walk.{left_by, left_from, left, returned_to, caller_of, frames_f, fitting, walk_by, by_section};
+ghost use Rattle.walk.specs.Walk.{left_by, left_from, left, returned_to, caller_of, frames_f, frame_numbers, fitting, walk_by, by_section};
+ghost use Rattle.walk.specs.Found.{found_f, found};
 ghost use Rattle.walk.specs.Standing.{memory_of, slots, left_of, caller_as, step_of};
-ghost use Rattle.walked.specs.Entry.{numbers_of, chain_numbers, chain_stored};
+ghost use Rattle.walked.specs.Entry.{numbers_of, chain_numbers, chain_stored, found_numbers, that_fit, found_answer, found_left};
 ghost use Rattle.walked.specs.Named.{names, operation_names, Marked, MarkedAll, MarksIn};
 ghost use Rattle.walked.specs.Standing.{rules_at, ruled_at, source_at, section_of, all_left, walked_of, fault_of};
 ghost use Rattle.walked.specs.Faults.{fault_by};
 
-use crate::chain::{Chain, Ending};
+use crate::chain::{Ending, Walked};
 use crate::fault::Fault;
 use crate::leaving::Leaving;
 use arrayvec::ArrayVec;
@@ -212,36 +214,49 @@ impl Fault<'_, '_, '_> {
 
     // ---- the frames
 
-    // Up to 64 frames, by the section. Behind them no function holds the address, or a 65th frame would follow.
-    pub fn frames(&self, start: Caller) -> Result<Chain, Question>
-        ensures { walked_of result ≡ frames_f (section_of self.now.section) (fault_by self.now) 64 (caller_as start) }
+    // Up to 64 frames, by the section. Behind them no function holds the address, or a 65th frame would follow. Where a
+    // frame's caller is refused it is the last.
+    pub fn frames(&self, start: Caller) -> Walked
+        ensures walked { walked_of result ≡ frames_f (section_of self.now.section) (fault_by self.now) 64 (caller_as start) }
+        ensures found { result.frames.items ≡ found_f (section_of self.now.section) (fault_by self.now) 64 (caller_as start) }
     {
         let mut caller = start;
         let mut frames = ArrayVec::new();
         'callers: while !frames.is_full() {
             let Some(holder) = walk::held(self.functions, caller.exact, caller.pc) else {
-                return Ok(Chain {
+                return Walked {
                     frames,
-                    ending: Ending::Unheld,
-                });
+                    ending: Ok(Ending::Unheld),
+                };
             };
             frames.push(Frame {
                 position: holder.position,
                 pc: caller.pc,
             });
-            let Some(next) = self.caller_by(caller.registers, holder)? else {
-                return Ok(Chain {
-                    frames,
-                    ending: Ending::Undefined,
-                });
-            };
-            caller = next;
+            match self.caller_by(caller.registers, holder) {
+                Err(question) => {
+                    return Walked {
+                        frames,
+                        ending: Err(question),
+                    };
+                }
+                Ok(None) => {
+                    return Walked {
+                        frames,
+                        ending: Ok(Ending::Undefined),
+                    };
+                }
+                Ok(Some(next)) => caller = next,
+            }
         }
         let ending = match walk::held(self.functions, caller.exact, caller.pc) {
             None => Ending::Unheld,
             Some(_) => Ending::TooMany,
         };
-        Ok(Chain { frames, ending })
+        Walked {
+            frames,
+            ending: Ok(ending),
+        }
     }
 }
 
@@ -255,12 +270,16 @@ fn chain_of(
     memory: Memory,
     functions: &[u64],
     start: Caller,
-) -> Result<Chain, Question>
-    ensures { walked_of result ≡ pick (machine_ok machine.now) (pick (eqb (machine_of machine.now).word 8) (frames_f (section_of section.entry) (fault_of (machine_of machine.now) (memory_of memory.entry) functions.now) 64 (caller_as start)) (bad 12)) (bad 11) }
+) -> Walked
+    ensures walked { walked_of result ≡ pick (machine_ok machine.now) (pick (eqb (machine_of machine.now).word 8) (frames_f (section_of section.entry) (fault_of (machine_of machine.now) (memory_of memory.entry) functions.now) 64 (caller_as start)) (bad 12)) (bad 11) }
+    ensures found { result.frames.items ≡ pick (machine_ok machine.now && eqb (machine_of machine.now).word 8) (found_f (section_of section.entry) (fault_of (machine_of machine.now) (memory_of memory.entry) functions.now) 64 (caller_as start)) [] }
 {
-    let known = lists::read_machine(machine)?;
+    let known = match lists::read_machine(machine) {
+        Ok(known) => known,
+        Err(question) => return Walked::refused(question),
+    };
     if known.word != 8 {
-        return Err(Question::X64Word);
+        return Walked::refused(Question::X64Word);
     }
     let fault = Fault {
         machine: known,
@@ -293,23 +312,79 @@ impl From<Question> for Answer {
 }
 
 // The frames at the front of a lent list, or 54.
-fn stored(r: Result<Chain, Question>, out: &mut [u64]) -> Answer
-    ensures result_value { numbers_of result ≡ chain_numbers (onward (walked_of r) (fitting (length out.old))) }
-    ensures out_after { out.new ≡ chain_stored (onward (walked_of r) (fitting (length out.old))) out.old }
+fn stored(w: Walked, out: &mut [u64]) -> Answer
+    ensures result_value { numbers_of result ≡ chain_numbers (onward (walked_of w) (fitting (length out.old))) }
+    ensures out_after { out.new ≡ chain_stored (onward (walked_of w) (fitting (length out.old))) out.old }
 {
-    let chain = match r {
-        Ok(chain) => chain,
+    let ending = match w.ending {
+        Ok(ending) => ending,
         Err(question) => return Answer::from(question),
     };
-    if out.len() / walk::FRAME_STRIDE < chain.frames.len() {
+    if out.len() / walk::FRAME_STRIDE < w.frames.len() {
         return Answer::from(Question::OtherRoom);
     }
-    walk::store(chain.frames.as_slice(), out);
+    walk::store(w.frames.as_slice(), out);
     Answer {
         number: 0,
-        frames: chain.frames.len() as u64,
-        ending: chain.ending.number(),
+        frames: w.frames.len() as u64,
+        ending: ending.number(),
     }
+}
+
+// The frames that were found at the front of a lent list, where it has room for them, and how the walk ended or by
+// which question it was refused: 54 is one of these.
+fn found_stored(w: Walked, out: &mut [u64]) -> Answer
+    ensures result_value { numbers_of result ≡ found_numbers (onward (walked_of w) (fitting (length out.old))) (length (that_fit (length out.old) w.frames.items)) }
+    ensures out_after { out.new ≡ put out.old 0 (frame_numbers (that_fit (length out.old) w.frames.items)) }
+{
+    if out.len() / walk::FRAME_STRIDE < w.frames.len() {
+        return match w.ending {
+            Ok(_) => Answer::from(Question::OtherRoom),
+            Err(question) => Answer::from(question),
+        };
+    }
+    walk::store(w.frames.as_slice(), out);
+    let frames = w.frames.len() as u64;
+    match w.ending {
+        Ok(ending) => Answer {
+            number: 0,
+            frames,
+            ending: ending.number(),
+        },
+        Err(question) => Answer {
+            number: question.number(),
+            frames,
+            ending: 0,
+        },
+    }
+}
+
+// The walk over a recorded fault: 73 for the file, and then as `chain_of`.
+// Kept: its parameters one by one, as the exports have them from C.
+fn walked(
+    machine: &[u64],
+    file: &[u8],
+    section: Section,
+    pc: u64,
+    stack: u64,
+    functions: &[u64],
+) -> Walked
+    ensures walked { (room : ℕ) → walk_by (section_of section.entry) machine.now file.now pc stack functions.now room ≡ onward (walked_of result) (fitting room) }
+    ensures found { result.frames.items ≡ found (section_of section.entry) machine.now file.now pc stack functions.now }
+{
+    let Some(recorded) = walk::read_recorded(file) else {
+        return Walked::refused(Question::Recorded);
+    };
+    let memory = Memory {
+        address: stack,
+        bytes: recorded.stack,
+    };
+    let start = Caller {
+        registers: recorded.registers,
+        pc,
+        exact: true,
+    };
+    chain_of(machine, section, memory, functions, start)
 }
 
 // The frames of a recorded fault, by the section: 73 for the record file, 11 and 12 for the machine, what a frame is refused by, and 54 last.
@@ -330,23 +405,36 @@ pub extern "C" fn unwind_walk(
     ensures result_value { numbers_of result ≡ chain_numbers (walk_by (by_section section.now relocations.now kind) machine.now file.now pc stack functions.now (length frames.old)) }
     ensures frames_after { frames.new ≡ chain_stored (walk_by (by_section section.now relocations.now kind) machine.now file.now pc stack functions.now (length frames.old)) frames.old }
 {
-    let Some(recorded) = walk::read_recorded(file) else {
-        return Answer::from(Question::Recorded);
-    };
     let from = Section {
         bytes: section,
         relocations,
         kind,
     };
-    let memory = Memory {
-        address: stack,
-        bytes: recorded.stack,
+    stored(walked(machine, file, from, pc, stack, functions), frames)
+}
+
+/// As `unwind_walk`, and where a frame is refused, the frames that were found up to it: `number` is the refusal's, and
+/// `frames` counts those that stand at the front of the lent list, 0 where it has no room for all of them.
+// Kept: the C interface passes the lists and numbers one by one.
+#[unsafe(no_mangle)]
+pub extern "C" fn unwind_walk_found(
+    machine: &[u64],
+    file: &[u8],
+    section: &[u8],
+    relocations: &[u64],
+    kind: u64,
+    pc: u64,
+    stack: u64,
+    functions: &[u64],
+    frames: &mut [u64],
+) -> Answer
+    ensures result_value { numbers_of result ≡ found_answer (by_section section.now relocations.now kind) machine.now file.now pc stack functions.now (length frames.old) }
+    ensures frames_after { frames.new ≡ found_left (by_section section.now relocations.now kind) machine.now file.now pc stack functions.now frames.old }
+{
+    let from = Section {
+        bytes: section,
+        relocations,
+        kind,
     };
-    let start = Caller {
-        registers: recorded.registers,
-        pc,
-        exact: true,
-    };
-    let r = chain_of(machine, from, memory, functions, start);
-    stored(r, frames)
+    found_stored(walked(machine, file, from, pc, stack, functions), frames)
 }
