@@ -19,7 +19,7 @@ use Rattle.apply.specs.Kinds.{kind_of, bits_of, bytes_of, size_ok}
 use Rattle.apply.specs.Fields.{up_to, low_of, number_at, field_at, in_field, set_in, sub_in}
 use Rattle.apply.specs.Values.{Layout, layout_of, symbols_of, address_of, sum_of, apart, distance_of, store_as, store_of}
 use Rattle.apply.specs.Apply.{Test, front, partners, leads, paired, value_ok, everywhere, sound, near_as, near, stores, apply, Applies, buffer_in}
-use Rattle.apply.specs.Pairs.{Apart, HoldsDistance, PairsHold}
+use Rattle.apply.specs.Pairs.{Apart, AllApart, HoldsDistance, PairsHold}
 use Rattle.apply.proofs.Tests.{step_size, sound_store}
 use Rattle.apply.proofs.Wrap.{low_lt}
 use Rattle.apply.proofs.Distances.{field_is, upper_kept, still, in_length, distance}
@@ -169,7 +169,7 @@ module _ (l : Layout) (size : ℕ) where
   missed : (s r : Relocation) (q : ℕ) → T (size_ok (kind_of r.kind) r.bytes) → Apart s r → s.place ≤ q → q < s.place + s.bytes → Misses q r
   missed s r q z o a b = record { sized = z; off = ⊎_elim (λ h. inl (omega arith)) (λ h. inr (omega arith)) o }
 
-  all_missed : (s : Relocation) (b : Option Relocation) (rs : List Relocation) (q : ℕ) → T (everywhere (sound l size) b rs) → Each (Apart s) rs
+  all_missed : (s : Relocation) (b : Option Relocation) (rs : List Relocation) (q : ℕ) → T (everywhere (sound l size) b rs) → AllApart s rs
       → s.place ≤ q → q < s.place + s.bytes → Each (Misses q) rs
   unfolding everywhere
   all_missed s b [] q t o a c = tt
@@ -178,7 +178,7 @@ module _ (l : Layout) (size : ℕ) where
       (missed s r q (sound_store l size b r (front rs) h.0).1 o.0 a c, all_missed s (some r) rs q h.1 o.1 a c)
 
   module _ (w : Width) (s t : Relocation) (behind : List Relocation) (k : kind_of s.kind ≡ Set w) (kt : kind_of t.kind ≡ Sub w) (pt : t.place ≡ s.place)
-      (n : s.bytes ≡ bytes_of w) (d : Known l.symbols w s t) (inside : s.place + bytes_of w ≤ size) (apart_behind : Each (Apart s) behind)
+      (n : s.bytes ≡ bytes_of w) (d : Known l.symbols w s t) (inside : s.place + bytes_of w ≤ size) (apart_behind : AllApart s behind)
       (sound_behind : T (everywhere (sound l size) (some t) behind)) where
     abbrev number : List ℕ → ℕ
     number bs = number_at bs s.place (bytes_of w)
@@ -208,7 +208,7 @@ module _ (l : Layout) (size : ℕ) where
         })
 
     held_behind : (before : List Relocation) (b : Option Relocation) (bs : List ℕ) → T (everywhere (sound l size) b (before ++ (s ∷ t ∷ behind)))
-        → Each (Apart s) before → length bs ≡ size → number bs < 256 ^ bytes_of w
+        → AllApart s before → length bs ≡ size → number bs < 256 ^ bytes_of w
         → HoldsDistance l.symbols w s t bs (stores l bs (before ++ (s ∷ t ∷ behind)))
     unfolding everywhere stores
     held_behind [] b bs so o len low = pair_holds bs len low
