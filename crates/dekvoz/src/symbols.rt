@@ -19,7 +19,12 @@ pub extern "C" fn unwind_elf_symbol(file: &[u8], section: u64, index: u64) -> El
 /// size before one without, which covers up to its section's end; then the one that begins last; then the
 /// shortest; then the first. Or a refusal by 101 to 108.
 #[unsafe(no_mangle)]
-pub extern "C" fn unwind_elf_symbol_at(file: &[u8], table: u64, section: u64, address: u64) -> ElfSymbol
+pub extern "C" fn unwind_elf_symbol_at(
+    file: &[u8],
+    table: u64,
+    section: u64,
+    address: u64,
+) -> ElfSymbol
     ensures value { result ≡ symbol_answer (function_at file.now table section address) }
     ensures inside { SymbolLiesIn (length file.now) result }
 {

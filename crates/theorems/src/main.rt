@@ -87,8 +87,35 @@ const STACK: u64 = 0x8000;
 // Ten words of the stack, the registers 0 to 16 (rbp is 6, rsp 7), and the trailer: how far back the
 // registers stand, and in four bytes each how many they are and how long the stack is.
 const RECORDED: [u64; 29] = [
-    0, 0, 0, 0, 7, 0x1114, 0, 0, 0, 0x1009, 0, 0, 0, 0, 0, 0, 0x8040, STACK, 0, 0, 0, 0, 0, 0, 0, 0,
-    0, 136, 343597383697,
+    0,
+    0,
+    0,
+    0,
+    7,
+    0x1114,
+    0,
+    0,
+    0,
+    0x1009,
+    0,
+    0,
+    0,
+    0,
+    0,
+    0,
+    0x8040,
+    STACK,
+    0,
+    0,
+    0,
+    0,
+    0,
+    0,
+    0,
+    0,
+    0,
+    136,
+    343597383697,
 ];
 
 // The words as bytes, the low byte first.
@@ -134,20 +161,24 @@ fn machine() -> [u64; 70] {
 // ---- what is printed
 
 // A function's name, and what its writer said.
-fn heading(rt: &impl Print, name: &str, outcome: Result<Option<Counts>, Refusal>) -> io::Result<()> {
+fn heading(
+    rt: &impl Print,
+    name: &str,
+    outcome: Result<Option<Counts>, Refusal>,
+) -> io::Result<()> {
     match outcome {
         Ok(Some(c)) => {
-            println!(
-                rt;
+            println!(rt;
                 "{name}: {} places, {} bytes, {} relocations, {} bytes of call sites or info",
-                c.places,
-                c.bytes,
-                c.relocations,
-                c.sites
+                c.places, c.bytes, c.relocations, c.sites
             )
         }
         Ok(None) => println!(rt; "{name}: nothing"),
-        Err(r) => println!(rt; "{name}: {} at function {}", r.question.number(), r.position),
+        Err(r) => println!(rt;
+            "{name}: {} at function {}",
+            r.question.number(),
+            r.position
+        ),
     }
 }
 
@@ -224,8 +255,7 @@ fn in_place(rt: &impl Print, k: u64, q: u16, p: u64) -> io::Result<()> {
 
 // What `unwind_read` answers: the numbers of the rules, and last that every number was spelled shortest.
 fn numbers(rt: &impl Print, read: Numbers) -> io::Result<()> {
-    println!(
-        rt;
+    println!(rt;
         "    {}: frame address {} {} {}, rule {} {}, signing {}, shortest {}",
         read.number,
         read.frame,
@@ -271,7 +301,12 @@ fn entries_and_index(rt: &impl Print, k: u64, q: u16, p: u64) -> io::Result<()> 
         Err(question) => println!(rt; "round_trips::list_entries: {}", question.number())?,
     }
     for i in 0..5 {
-        println!(rt; "    {} {} {}", held[3 * i], held[3 * i + 1], held[3 * i + 2])?;
+        println!(rt;
+            "    {} {} {}",
+            held[3 * i],
+            held[3 * i + 1],
+            held[3 * i + 2]
+        )?;
     }
     Ok(())
 }
@@ -296,9 +331,17 @@ fn both_sections(rt: &impl Print, k: u64, q: u16, p: u64) -> io::Result<()> {
         q,
         p,
     );
-    heading(rt, "two_sections::write_two_and_read, eh_frame", said.eh.outcome)?;
+    heading(
+        rt,
+        "two_sections::write_two_and_read, eh_frame",
+        said.eh.outcome,
+    )?;
     rules(rt, said.eh.answer)?;
-    heading(rt, "two_sections::write_two_and_read, debug_frame", said.debug.outcome)?;
+    heading(
+        rt,
+        "two_sections::write_two_and_read, debug_frame",
+        said.debug.outcome,
+    )?;
     rules(rt, said.debug.answer)
 }
 
@@ -317,7 +360,10 @@ fn checked(rt: &impl Print) -> io::Result<()> {
         &mut to.sites,
     );
     heading(rt, "checked_back::write_and_check", said.outcome)?;
-    println!(rt; "    {} at record {}", said.answer.number, said.answer.record)
+    println!(rt;
+        "    {} at record {}",
+        said.answer.number, said.answer.record
+    )
 }
 
 fn walked(rt: &impl Print) -> io::Result<()> {
@@ -342,12 +388,9 @@ fn walked(rt: &impl Print) -> io::Result<()> {
         &mut frames,
     );
     heading(rt, "walked_back::write_and_walk", said.outcome)?;
-    println!(
-        rt;
+    println!(rt;
         "    {}: {} frames, ending {}",
-        said.answer.number,
-        said.answer.frames,
-        said.answer.ending
+        said.answer.number, said.answer.frames, said.answer.ending
     )?;
     for k in 0..3 {
         println!(rt; "    function {} at {}", frames[2 * k], frames[2 * k + 1])?;
@@ -372,15 +415,9 @@ fn site(rt: &impl Print, k: u64, offset: u64) -> io::Result<()> {
     );
     heading(rt, "sites_back::write_and_read_site", said.outcome)?;
     let site = said.answer;
-    println!(
-        rt;
+    println!(rt;
         "    {}: found {}, start {}, length {}, pad {}, shortest {}",
-        site.number,
-        site.found,
-        site.start,
-        site.length,
-        site.pad,
-        site.shortest
+        site.number, site.found, site.start, site.length, site.pad, site.shortest
     )
 }
 
@@ -410,19 +447,12 @@ fn all_sites(rt: &impl Print, k: u64) -> io::Result<()> {
 
 // What was read of an x64 record, and the codes that were stored.
 fn codes(rt: &impl Print, read: X64Reading, held: &[u64; 15]) -> io::Result<()> {
-    println!(
-        rt;
+    println!(rt;
         "    {}: end {}, frame {}, register {}, offset {}, {} codes",
-        read.number,
-        read.end,
-        read.frame,
-        read.frame_register,
-        read.frame_offset,
-        read.codes
+        read.number, read.end, read.frame, read.frame_register, read.frame_offset, read.codes
     )?;
     for k in 0..3 {
-        println!(
-            rt;
+        println!(rt;
             "    {} {} {} {} {}",
             held[5 * k],
             held[5 * k + 1],
@@ -483,7 +513,10 @@ fn x64_rows(rt: &impl Print) -> io::Result<()> {
         vectors: [0; undo::VECTOR_HALVES],
     };
     match undo::undo_record(&to.sites, 0, &memory, stopped) {
-        Ok(before) => println!(rt; "x64_back::undo_record: rbx {}, rsp {}", before.integers[3], before.integers[4]),
+        Ok(before) => println!(rt;
+            "x64_back::undo_record: rbx {}, rsp {}",
+            before.integers[3], before.integers[4]
+        ),
         Err(question) => println!(rt; "x64_back::undo_record: {}", question.number()),
     }
 }
@@ -509,20 +542,23 @@ fn arm64_function(rt: &impl Print) -> io::Result<()> {
     let word = u32::from_le_bytes([to.bytes[4], to.bytes[5], to.bytes[6], to.bytes[7]]);
     println!(rt; "    word {word}")?;
     match said.answer {
-        Some(read) => println!(
-            rt;
+        Some(read) => println!(rt;
             "    {}: length {}, {} codes, {} epilogues, {} in all",
-            read.number,
-            read.length,
-            read.prologue,
-            read.epilogues,
-            read.codes
+            read.number, read.length, read.prologue, read.epilogues, read.codes
         )?,
         None => println!(rt; "    no row")?,
     }
-    println!(rt; "    epilogue {} {} {}", epilogues[0], epilogues[1], epilogues[2])?;
+    println!(rt;
+        "    epilogue {} {} {}",
+        epilogues[0], epilogues[1], epilogues[2]
+    )?;
     for i in 0..3 {
-        println!(rt; "    {} {} {}", codes[3 * i], codes[3 * i + 1], codes[3 * i + 2])?;
+        println!(rt;
+            "    {} {} {}",
+            codes[3 * i],
+            codes[3 * i + 1],
+            codes[3 * i + 2]
+        )?;
     }
     match arm64_back::packed_down(ARM64_WORD) {
         Some(down) => println!(rt; "arm64_back::packed_down: {down}"),
