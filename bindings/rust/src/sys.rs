@@ -554,6 +554,24 @@ extern "C" {
         frames_n: usize,
     ) -> Chain;
 
+    pub(crate) fn unwind_walk_found(
+        machine: *const u64,
+        machine_n: usize,
+        record: *const u8,
+        record_n: usize,
+        section: *const u8,
+        section_n: usize,
+        relocations: *const u64,
+        relocations_n: usize,
+        kind: u64,
+        pc: u64,
+        stack: u64,
+        functions: *const u64,
+        functions_n: usize,
+        frames: *mut u64,
+        frames_n: usize,
+    ) -> Chain;
+
     pub(crate) fn unwind_pack_functions(
         functions: *const Function,
         functions_n: usize,

@@ -127,6 +127,38 @@ pub fn walk(fault: &Fault<'_>, section: &FrameSection<'_>, functions: &[Placed])
     Ok(Chain { frames: frames.iter().take(count).map(|&[position, pc]| Frame { position, pc }).collect(), ending })
 }
 
+/// The frames that are found, and how the walk ended: where it is refused, those up to the frame at which it is, that one too. Else as
+/// [`walk`].
+///
+/// ```
+/// use dekvoz::walk::{recorded, walk_found, Fault, Frame};
+/// use dekvoz::{relaxed_table, Builder, Format, FrameSection, Machine, Placed, Section};
+///
+/// let leaf = Builder::new(16, 32).at(1).def_cfa_offset(16).done();
+/// let machine = Machine::X86_64;
+/// let table = relaxed_table(&machine, Format::Elf, &[leaf.function()])?;
+/// let (kind, word) = (Section::Eh, machine.word);
+/// let section = FrameSection { bytes: &table.bytes, relocations: &table.relocations, kind, word, address: 0 };
+/// // No word of the stack was recorded, so the caller cannot be told: 74.
+/// let record = recorded(&[], &[0, 0, 0, 0, 0, 0, 0, 0x8000]);
+/// let fault = Fault { machine: &machine, record: &record, pc: 0x1008, stack: 0x8000 };
+/// let (frames, ending) = walk_found(&fault, &section, &[Placed { address: 0x1000, length: 32 }]);
+/// assert_eq!(frames, [Frame { position: 0, pc: 0x1008 }]);
+/// assert_eq!(ending.map_err(|no| no.number), Err(74));
+/// # Ok::<(), dekvoz::Refusal>(())
+/// ```
+pub fn walk_found(
+    fault: &Fault<'_>,
+    section: &FrameSection<'_>,
+    functions: &[Placed],
+) -> (Vec<Frame>, Result<Ending, Refusal>) {
+    let list: Vec<[u64; 2]> = functions.iter().map(|placed| [placed.address, placed.length]).collect();
+    let mut frames = [[0; 2]; MOST_FRAMES];
+    let said = asked(sys::unwind_walk_found, fault, section, &list, &mut frames);
+    let found = frames.iter().take(said.frames as usize).map(|&[position, pc]| Frame { position, pc }).collect();
+    (found, ended(&said))
+}
+
 /// The same into a lent list, of two numbers a frame: how many there are, and why there are no more. Nothing is allocated. A function is
 /// its start address and its length.
 ///
@@ -138,13 +170,43 @@ pub fn walk_lists(
     functions: &[[u64; 2]],
     frames: &mut [[u64; 2]],
 ) -> Result<(usize, Ending), Refusal> {
+    let said = asked(sys::unwind_walk, fault, section, functions, frames);
+    Ok((said.frames as usize, ended(&said)?))
+}
+
+/// Either walk of the library.
+type Walk = unsafe extern "C" fn(
+    *const u64,
+    usize,
+    *const u8,
+    usize,
+    *const u8,
+    usize,
+    *const u64,
+    usize,
+    u64,
+    u64,
+    u64,
+    *const u64,
+    usize,
+    *mut u64,
+    usize,
+) -> sys::Chain;
+
+fn asked(
+    walk: Walk,
+    fault: &Fault<'_>,
+    section: &FrameSection<'_>,
+    functions: &[[u64; 2]],
+    frames: &mut [[u64; 2]],
+) -> sys::Chain {
     let machine = fault.machine.numbers();
     let relocations = Relocation::numbers(section.relocations);
     let (functions, frames) = (functions.as_flattened(), frames.as_flattened_mut());
     // SAFETY: each pointer and count come from one slice, so they are valid and aligned; `frames` is a unique reference, so it overlaps
     // no other. The function takes every number.
-    let said = unsafe {
-        sys::unwind_walk(
+    unsafe {
+        walk(
             machine.as_ptr(),
             machine.len(),
             fault.record.as_ptr(),
@@ -161,9 +223,12 @@ pub fn walk_lists(
             frames.as_mut_ptr(),
             frames.len(),
         )
-    };
+    }
+}
+
+const fn ended(said: &sys::Chain) -> Result<Ending, Refusal> {
     match said.number {
-        0 => Ok((said.frames as usize, Ending::of(said.ending))),
+        0 => Ok(Ending::of(said.ending)),
         number => Err(Refusal { number, position: 0 }),
     }
 }

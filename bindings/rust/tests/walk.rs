@@ -68,6 +68,23 @@ fn refusals() {
     assert_eq!(number(&machine, &record(&[]), &FrameSection { bytes: cut, ..section }), 61);
 }
 
+/// Where a frame is refused, the frames up to it are told.
+#[test]
+fn found() {
+    let bytes = section();
+    let section = placed(&bytes);
+    let list = functions(&section).unwrap();
+    let go = |stack: &[u64]| {
+        let record = record(stack);
+        let fault = Fault { machine: &Machine::X86_64, record: &record, pc: 0x1004, stack: STACK };
+        let (frames, ending) = dekvoz::walk::walk_found(&fault, &section, &list);
+        (frames.iter().map(|frame| frame.pc).collect::<Vec<_>>(), ending.map_err(|no| no.number))
+    };
+    assert_eq!(go(&[0x1008, 0x2009]), (vec![0x1004, 0x1008, 0x2009], Ok(Ending::ReturnUndefined)));
+    assert_eq!(go(&[0x1008]), (vec![0x1004, 0x1008], Err(74)));
+    assert_eq!(go(&[]), (vec![0x1004], Err(74)));
+}
+
 #[test]
 fn lent_list() {
     let bytes = section();
