@@ -1,8 +1,10 @@
 /* Unwind tables: the writers of ELF's eh_frame and debug_frame and of Windows unwind data for x64 and for ARM64, the row check, the
- * reader of the DWARF sections, the walk over a recorded fault, the reader of call sites, and the readers of Windows unwind data.
+ * reader of the DWARF sections, the walk over a recorded fault, the reader of call sites, the readers of Windows unwind data, and the
+ * reader of ELF files.
  *
- * Every function takes every input: a refusal comes back as the number of the question that was answered by no, and every
- * lent buffer is then as it was. An accepted call leaves what lies past its results as it was. No input is changed.
+ * Every function takes every input: a refusal comes back as the number of the question that was answered by no (of an ELF file: 101 to
+ * 109, below), and every lent buffer is then as it was; unwind_walk_found alone then stores the frames that it found. An accepted call
+ * leaves what lies past its results as it was. No input is changed.
  *
  * A call of a writer of DWARF takes about 300 KB of stack.
  *
@@ -117,7 +119,8 @@ enum unwind_question {
     UNWIND_QUESTION_ARM64_EPILOGUES = 82, UNWIND_QUESTION_ARM64_VALUES = 83, UNWIND_QUESTION_EVERY_OFFSET = 84
 };
 
-/* What is wrong where a question is answered by no, in words: for a message. NULL where no question has that number. */
+/* What is wrong where a question is answered by no, in words: for a message. NULL where no question has that number, so of 0 and of the
+ * numbers of ELF files (101 to 109), too. */
 static inline const char *unwind_question_words(uint64_t question) {
     switch (question) {
     case 11: return "the machine, format, section kind or word is none that is known";

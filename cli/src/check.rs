@@ -7,7 +7,7 @@ use dekvoz::{check_section, CheckRefusal, Question, Refusal, Section as Kind};
 
 use crate::args::Args;
 use crate::dump::Listing;
-use crate::input::{End, File, Parts};
+use crate::input::{End, File, Parts, Section, DEBUG_FRAME, EH_FRAME};
 use crate::listed::about;
 use crate::out::Out;
 use crate::progress::Progress;
@@ -59,6 +59,13 @@ pub fn run(args: &Args) -> Result<bool, Stop> {
     } else {
         as_text(&mut out, &listing, &causes);
         long_text(&mut out, &long);
+        if behind(args, &file, &section) {
+            out.text(DEBUG_FRAME)
+                .text(" is there too, and was not looked at; --section ")
+                .text(DEBUG_FRAME)
+                .text(" checks it")
+                .line();
+        }
     }
     crate::finished(&mut out)?;
     if let Some(why) = parts.complaint() {
@@ -78,6 +85,16 @@ pub fn run(args: &Args) -> Result<bool, Stop> {
         }
     }
     Ok(refused == 0 && parts.complaint().is_none())
+}
+
+/// Whether the file has a .debug_frame behind the .eh_frame that was chosen for want of an option.
+fn behind(args: &Args, file: &File, section: &Section<'_>) -> bool {
+    let chosen = args.has("--section") || args.has("--kind");
+    let held = file
+        .object
+        .as_ref()
+        .is_some_and(|object| object.sections.iter().any(|held| held.name == DEBUG_FRAME && held.size != 0));
+    !chosen && held && section.name.as_deref() == Some(EH_FRAME)
 }
 
 /// The first record that does not pass: of eh_frame the library's check of the whole section says it.

@@ -32,7 +32,7 @@ pub fn run(args: &Args) -> Result<bool, Stop> {
     };
     let file = File::new(args)?;
     let table = match (record, place) {
-        (Some(k), None) => of_record(args, &file, k)?,
+        (Some(k), None) => of_record(args, &file, k, offset)?,
         (None, Some(place)) => Some((named(args, &file)?, place)),
         _ => return Err(Stop::Usage(Usage("handler asks for --record K or for --place N".to_string()))),
     };
@@ -55,7 +55,7 @@ fn named<'a>(args: &Args, file: &'a File) -> Result<&'a [u8], Stop> {
     Ok(&file.bytes[section.bytes.clone()])
 }
 
-fn of_record<'a>(args: &Args, file: &'a File, k: u64) -> Result<Table<'a>, Stop> {
+fn of_record<'a>(args: &Args, file: &'a File, k: u64, offset: u64) -> Result<Table<'a>, Stop> {
     let Some(object) = &file.object else {
         return Err(Stop::failed(
             &file.name,
@@ -70,6 +70,11 @@ fn of_record<'a>(args: &Args, file: &'a File, k: u64) -> Result<Table<'a>, Stop>
         return Err(failed(format!("there are {} records, counted from 0", parts.records.len())));
     }
     let found = listing.record(k as usize).found.map_err(|untold| failed(words::untold(untold)))?;
+    // A table says nothing of what is not its function's.
+    let function = parts.function(parts.records[k as usize].place).map_err(|refusal| failed(words::refused(refusal)))?;
+    if offset >= function.length {
+        return Err(failed(format!("offset {offset} is not below the function's length, {}", function.length)));
+    }
     let Some(pointer) = found.call_sites else { return Ok(None) };
     if object.relocatable {
         return unlinked(file, object, &section, &found.header, pointer).map_err(failed);

@@ -180,6 +180,13 @@ impl File {
     fn elf_sections(&self, args: &Args, object: &Object, kind: Option<Kind>) -> Result<Vec<Section<'_>>, Stop> {
         let mut found = wanted(args, kind).into_iter().filter_map(|name| object.position(name));
         let first = found.next().ok_or_else(|| self.without(args, kind))?;
+        // An answer about one of several would be taken for one about the file.
+        let name = &object.sections[first].name;
+        let alike = object.sections.iter().filter(|section| section.name == *name).count();
+        if alike > 1 {
+            let why = format!("it has {alike} sections {name}, and one is read; dump --readelf lists each");
+            return Err(Stop::failed(&self.name, why));
+        }
         let mut sections = vec![self.of_object(object, first, kind)?];
         // One whose bytes are not there is not looked into behind another.
         sections.extend(found.filter_map(|found| self.of_object(object, found, kind).ok()));

@@ -116,7 +116,9 @@ fn run() -> Result<bool, Stop> {
 fn over_files(args: &Args) -> Result<bool, Stop> {
     let mut good = true;
     for (n, file) in args.files.iter().enumerate() {
-        if !args.has("--json") {
+        if args.has("--readelf") {
+            say(&format!("\nFile: {file}\n"))?;
+        } else if !args.has("--json") {
             say(&format!("{}{file}:\n", if n == 0 { "" } else { "\n" }))?;
         }
         match one(&args.of_file(file)) {

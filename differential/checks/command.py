@@ -12,7 +12,7 @@ import sys
 
 sys.path.insert(0, os.path.dirname(os.path.dirname(os.path.abspath(__file__))))
 
-from common import DEKVOZ, OUT  # noqa: E402
+from common import DEKVOZ, OUT, ROOT  # noqa: E402
 
 SECTION, DAMAGED, OBJECT = (os.path.join(OUT, f"command.{end}") for end in ("section", "damaged", "o"))
 # Two functions: one with a handler, and one that calls it.
@@ -178,6 +178,8 @@ def objects():
     moved = run("rules", OBJECT, f"--load-base={0x7f0000000000:#x}", f"--address={0x7f0000000000 + pc:#x}")[0]
     assert moved.splitlines()[1:] == run("rules", OBJECT, f"--address={pc:#x}")[0].splitlines()[1:] and f"pc=0x7f00{pc:08x}" in moved, moved
     assert "--load-base" in run("dump", OBJECT, "--base=0x1000", status=2)[1]
+    # No table says anything behind its function.
+    assert "not below the function's length" in run("handler", OBJECT, f"--record={records[-1]['record']}", f"--at={records[-1]['size']}", status=1)[1]
     # Several files, each under its name.
     text, why = run("check", OBJECT, "/nonexistent", OBJECT, status=1)
     assert text.count(f"{OBJECT}:\n") == 2 and "/nonexistent:\n" in text and "No such file" in why, (text, why)
@@ -201,8 +203,8 @@ def unlinked(source):
         assert run("dump", made, "--readelf")[0] == readelf(made)
 
 
-def readelf(path):
-    return subprocess.run(["readelf", "--debug-dump=frames-interp", path], capture_output=True, text=True).stdout
+def readelf(*paths):
+    return subprocess.run(["readelf", "--debug-dump=frames-interp", *paths], capture_output=True, text=True).stdout
 
 
 def sections(source):
@@ -217,12 +219,24 @@ def sections(source):
     assert "of .debug_frame" in run("rules", made, f"--address={functions['sum']}")[0]
     assert "of .debug_frame" not in run("rules", made, f"--address={functions['other']}")[0]
     assert json.loads(run("rules", made, f"--address={functions['caller']}", "--json")[0])["section"] == ".debug_frame"
+    # A PLT's record, where the linker makes one, is refused.
+    for words, there in ([], True), (["--section=.eh_frame"], False):
+        said = subprocess.run([DEKVOZ, "check", made, *words], capture_output=True, text=True).stdout
+        assert (".debug_frame is there too, and was not looked at" in said) == there, said
     why = run("rules", made, "--address=1", status=1)[1]
     assert ".eh_frame holds 0x1" in why and ".debug_frame holds 0x1" in why, why
     assert json.loads(run("rules", made, "--load-base=0x10000", f"--address={0x10000 + functions['sum']}", "--json")[0])["pc"] == hex(0x10000 + functions["sum"])
     if not subprocess.run(["readelf", "--version"], capture_output=True).returncode:
         for path in (made, debug, OBJECT):
             assert run("dump", path, "--readelf")[0] == readelf(path), path
+        assert run("dump", made, OBJECT, "--readelf")[0] == readelf(made, OBJECT)
+    # Two sections of one name: one of them is no answer about the file.
+    with open(data + ".s", "w") as file:
+        for group in ("a", "b"):
+            file.write(f'.section .eh_frame,"aG",@progbits,{group},comdat\n.byte {",".join(map(str, CIE))}\n')
+    subprocess.run(["gcc", "-c", "-o", data, data + ".s"], check=True)
+    for words in (["dump"], ["check"], ["rules", "--record=0", "--at=0"], ["handler", "--record=0", "--at=0"]):
+        assert "2 sections .eh_frame" in run(words[0], data, *words[1:], status=1)[1], words
     # A section of a file without functions: nothing, and no failure.
     with open(data + ".s", "w") as file:
         file.write('.data\n.long 1\n.section .eh_frame,"a",@unwind\n')

@@ -21,7 +21,7 @@ sys.path.insert(0, os.path.dirname(os.path.dirname(os.path.abspath(__file__))))
 
 from common import agreed, ask, sleb, uleb  # noqa: E402
 from judges.reader import DEBUG, EH  # noqa: E402
-from judges.walk import HELD_BY_NONE, MOST_FRAMES, RETURN_UNDEFINED, TOO_MANY, TOP, Case, recorded, walk  # noqa: E402
+from judges.walk import HELD_BY_NONE, MOST_FRAMES, RETURN_UNDEFINED, TOO_MANY, TOP, Case, found, recorded, walk  # noqa: E402
 
 BEFORE = 0x5A5A5A5A5A5A5A5A
 X86_64 = [8, 8, 7, 16, 6, 0] + [255] * 64
@@ -608,10 +608,17 @@ def walked(cases):
     return ask("walk", said)
 
 
-def expected(case, said=None):
-    number, frames, ending = said or walk(case)
+def listed(case, number, frames, ending):
     flat = [n for frame in frames for n in frame]
     return [number, len(frames), ending, *flat] + [BEFORE] * (case.room + 1 - len(flat))
+
+
+def expected(case, said=None):
+    """Of unwind_walk, and behind it of unwind_walk_found, which has the frames of a refused walk too."""
+    number, frames, ending = said or walk(case)
+    up_to = [] if number == 54 or number == 0 else found(case)[1]
+    up_to = frames if number == 0 else up_to if 2 * len(up_to) <= case.room else []
+    return listed(case, number, frames, ending) + listed(case, number, up_to, ending)
 
 
 def with_rooms(case, rng):

@@ -1,4 +1,5 @@
-/* Hands recorded faults in text form to unwind_walk and prints, for each `ask`, its three numbers and the whole lent list.
+/* Hands recorded faults in text form to unwind_walk and to unwind_walk_found and prints, for each `ask`, of both the three numbers and the
+ * whole lent list.
  *
  *     machine N N ..
  *     record HEX
@@ -62,20 +63,30 @@ static void read_numbers(input *i) {
     memcpy(front(i, 8), list, 8 * i->n);
 }
 
+typedef unwind_chain walk(
+    const uint64_t *, size_t, const uint8_t *, size_t, const uint8_t *, size_t, const uint64_t *, size_t,
+    uint64_t, uint64_t, uint64_t, const uint64_t *, size_t, uint64_t *, size_t);
+
+static void ask_of(walk *asked, const uint64_t n[4], uint64_t *frames) {
+    size_t room = n[3];
+    for (size_t i = 0; i <= room; i++) frames[i] = BEFORE;
+    unwind_chain r = asked(numbers_of(&machine), machine.n, front(&record, 1), record.n, front(&section, 1), section.n,
+        numbers_of(&relocations), relocations.n, n[0], n[1], n[2], numbers_of(&functions), functions.n, frames, room);
+    printf("%" PRIu64 " %" PRIu64 " %" PRIu64, r.number, r.frames, r.ending);
+    for (size_t i = 0; i <= room; i++) printf(" %" PRIu64, frames[i]);
+}
+
 static void ask(void) {
     uint64_t n[4] = {0};
     for (int i = 0; i < 4; i++) {
         char *word = strtok(NULL, " \n");
         n[i] = word ? strtoull(word, NULL, 10) : 0;
     }
-    size_t room = n[3];
-    uint64_t *frames = malloc((room + 1) * sizeof *frames);
+    uint64_t *frames = malloc((n[3] + 1) * sizeof *frames);
     if (frames == NULL) exit(3);
-    for (size_t i = 0; i <= room; i++) frames[i] = BEFORE;
-    unwind_chain r = unwind_walk(numbers_of(&machine), machine.n, front(&record, 1), record.n, front(&section, 1), section.n,
-        numbers_of(&relocations), relocations.n, n[0], n[1], n[2], numbers_of(&functions), functions.n, frames, room);
-    printf("%" PRIu64 " %" PRIu64 " %" PRIu64, r.number, r.frames, r.ending);
-    for (size_t i = 0; i <= room; i++) printf(" %" PRIu64, frames[i]);
+    ask_of(unwind_walk, n, frames);
+    printf(" ");
+    ask_of(unwind_walk_found, n, frames);
     printf("\n");
     free(frames);
 }

@@ -1,7 +1,8 @@
 """The walk over a recorded fault by the specification, "Walk", apart from the library's code and
 over judges/reader.py: the judge of unwind_walk.
 
-`Case` is what unwind_walk is handed. `walk(case)` is (number, frames, ending); a frame is (position, pc or return address).
+`Case` is what unwind_walk is handed. `walk(case)` is (number, frames, ending); a frame is (position, pc or return address). `found(case)` has the
+frames of a refused walk too, as unwind_walk_found has them where the lent list has room.
 `fill`, where it is given, is told every stack word that is loaded before it is: it makes stacks."""
 
 import dataclasses
@@ -172,25 +173,30 @@ class Walker:
         self.exact = signal
         return True
 
-    def chain(self):
-        frames = []
+    def chain(self, frames):
         while True:
             held = self.holder()
             if held is None:
-                return frames, HELD_BY_NONE
+                return HELD_BY_NONE
             if len(frames) == MOST_FRAMES:
-                return frames, TOO_MANY
+                return TOO_MANY
             frames.append((held[0], self.pc))
             if not self.leave(*held):
-                return frames, RETURN_UNDEFINED
+                return RETURN_UNDEFINED
+
+
+def found(case, fill=None):
+    """The number, the frames up to where the walk ends or is refused, and the ending."""
+    frames = []
+    try:
+        ending = Walker(case, fill).chain(frames)
+    except Refused as no:
+        return no.number, frames, 0
+    return 0, frames, ending
 
 
 def walk(case, fill=None):
-    try:
-        walker = Walker(case, fill)
-        frames, ending = walker.chain()
-        if 2 * len(frames) > case.room:
-            raise Refused(54)
-    except Refused as no:
-        return no.number, [], 0
-    return 0, frames, ending
+    number, frames, ending = found(case, fill)
+    if number == 0 and 2 * len(frames) > case.room:
+        number = 54
+    return (number, [], 0) if number else (0, frames, ending)

@@ -25,7 +25,7 @@ static int read_file(const char *path) {
     FILE *in = fopen(path, "rb");
     if (in == NULL || fseek(in, 0, SEEK_END)) return 1;
     long end = ftell(in);
-    file = end > 0 ? malloc((size_t)end) : NULL;
+    file = end > 0 ? (uint8_t *)malloc((size_t)end) : NULL;
     rewind(in);
     if (file) size = fread(file, 1, (size_t)end, in);
     fclose(in);

@@ -513,10 +513,10 @@ fn x64_rows(rt: &impl Print) -> io::Result<()> {
         vectors: [0; undo::VECTOR_HALVES],
     };
     match undo::undo_record(&to.sites, 0, &memory, stopped) {
-        Ok(before) => println!(rt;
-            "x64_back::undo_record: rbx {}, rsp {}",
-            before.integers[3], before.integers[4]
-        ),
+        Ok(before) => {
+            let (rbx, rsp) = (before.integers[3], before.integers[4]);
+            println!(rt; "x64_back::undo_record: rbx {rbx}, rsp {rsp}")
+        }
         Err(question) => println!(rt; "x64_back::undo_record: {}", question.number()),
     }
 }
