@@ -1,6 +1,6 @@
 -- How far down a packed word's prologue moves the stack pointer (Microsoft, "ARM64 exception handling",
 -- "Packed unwind data": FrameSize is the whole frame, in 16 bytes).
-use Rattle.std.specs.Prelude.{ℕ, ◌+◌, ◌%◌, Bool, ◌&&◌, ◌||◌, List, [], ◌∷◌, eqb, Some, None}
+use Rattle.std.specs.Prelude.{◌≡◌, ℕ, ◌+◌, ◌*◌, ◌%◌, Bool, true, ◌&&◌, ◌||◌, List, [], ◌∷◌, eqb, Some, None}
 use Rattle.std.specs.Prelude as code
 use Rattle.std.proofs.Math.Option.{Option, none, some}
 use Rattle.format.specs.Prelude.{pick, after}
@@ -21,6 +21,10 @@ is_defined word = (eqb (word % 4) 1 || eqb (word % 4) 2) && packed_ok (packed_of
 
 unfoldable pub packed_down : (word : ℕ) → Option ℕ
 packed_down word = pick (is_defined word) (down_through (prologue_means (packed_prologue (packed_of word)))) none
+
+-- of a word that is defined: 16 times its FrameSize in all
+abbrev pub DownByFrame : (word : ℕ) → code.Option ℕ → Type 0
+DownByFrame word r = is_defined word ≡ true → r ≡ Some (16 * (packed_of word).frame)
 
 -- a number, where there is one, as the code has it
 abbrev pub number_in : Option ℕ → code.Option ℕ

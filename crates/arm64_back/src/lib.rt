@@ -10,7 +10,7 @@ ghost use Rattle.arm64.specs.declared.Part.TheVariants.{Prologue};
 ghost use Rattle.arm64.specs.Packed.{packed_of, slot_at};
 ghost use Rattle.arm64.specs.Reader.{read_arm64};
 ghost use Rattle.arm64.specs.Writer.{arm64_answer};
-ghost use Rattle.arm64_back.specs.Down.{number_in, down_by, slot_down, is_defined, packed_down};
+ghost use Rattle.arm64_back.specs.Down.{number_in, down_by, slot_down, is_defined, packed_down, DownByFrame};
 ghost use Rattle.arm64_back.specs.Together.{has_row, finished_word, row_read, RowRead, FunctionBack, Answers, PackedAsFull};
 
 use arm64::{Arm64Reading, Code, Part};
@@ -181,7 +181,7 @@ fn is_defined(word: u32) -> bool
 /// which is 16 times FrameSize. None where the word is not packed or the page does not define it.
 pub fn packed_down(word: u32) -> Option<u64>
     ensures sum { result ≡ number_in (packed_down word) }
-    ensures frame { is_defined word ≡ true → result ≡ Some (16 * (packed_of word).frame) }
+    ensures frame { DownByFrame word result }
 {
     if !is_defined(word) {
         return None;

@@ -12,9 +12,10 @@ ghost use Rattle.walked_back.specs.Together.{walk_for, WalksBack};
 use lists::output::WrittenAnd;
 use walked::Answer;
 
-// A writer, debug_frame's or the other, and then the walk over a recorded fault by exactly what was written, with the writer's kind and
-// machine. Where the list was accepted for DWARF output, and each function that is placed is one of the list, without relaxing labels,
-// passing the row check and of its length, the walk is that by the rows. Where the writer refused, the walk is handed nothing.
+// A writer, debug_frame's or the other, and then the walk over a recorded fault by exactly what was written, with the
+// writer's kind and machine. Where the list was accepted for DWARF output, and each function that the walk visits is one
+// of the list, without relaxing labels, passing the row check and of its length, the walk is that by the rows. Where the
+// writer refused, the walk is handed nothing.
 // Kept: the lists one by one, as `unwind::write` and `unwind_walk` take them. `writes` names the writer's four buffers, `frames_after` and
 // `walks_back` the frames, before the call and after it; a struct of the sixteen would be made by the caller and taken apart again for both calls.
 pub fn write_and_walk(
