@@ -504,7 +504,7 @@ fn x64_rows(rt: &impl Print) -> io::Result<()> {
     let file = recorded();
     let memory = Memory {
         address: STACK,
-        bytes: &file[..80],
+        bytes: &file,
     };
     let mut integers = [0; undo::INTEGERS];
     integers[4] = STACK;
