@@ -185,11 +185,14 @@ def command(data, theirs):
     return True
 
 
+# Microsoft's name of each kind, as the command's JSON has it.
+NAMED = {"alloc": "Alloc", "pac_sign_lr": "PacSignLr", **{name: kind for kind, name in DIRECTIVES.items() if kind != "Alloc"}}
+
+
 def codes_of(told):
-    """A code of the command's JSON, as Regp(21, 16), in numbers."""
-    name, *operands = re.findall(r"\w+", told["code"])
-    kind, operands = K[name], [int(n) for n in operands]
-    return (kind, *operands) if len(operands) == 2 else (kind, 0, *(operands or [0]))
+    """A code of the command's JSON, {"code": "save_regp", "register": "x21", "offset": 16}, in numbers."""
+    operands = [int(str(value).lstrip("xd")) for key, value in told.items() if key not in ("code", "words", "register")]
+    return K[NAMED[told["code"]]], int(told.get("register", "x0")[1:]), *(operands or [0])
 
 
 def main():
