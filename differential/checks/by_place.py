@@ -16,7 +16,7 @@ sys.path.insert(0, os.path.dirname(os.path.dirname(os.path.abspath(__file__))))
 from checks.definitions import by_case, parse  # noqa: E402
 from checks.reader import of_gas  # noqa: E402
 from common import HERE, agreed, ask  # noqa: E402
-from judges.by_place import BEFORE, MARK, NOWHERE, along, at, expected, locate  # noqa: E402
+from judges.by_place import BEFORE, MARK, NOWHERE, all_rules, along, at, expected, locate  # noqa: E402
 from judges.reader import DEBUG, EH, Refused, entries, read  # noqa: E402
 
 
@@ -126,6 +126,7 @@ def questions(kind, word, section, relocations, rng):
         near = expected(section, relocations, ("function", kind, word, address, place))
         pc = rng.choice([near[1], near[1] + near[2] - 1, near[1] + near[2], near[1] - 1, rng.randrange(2**13)]) % 2**64
         yield "holder", rng.choice(kinds), rng.choice(words), address, pc
+        yield "entries", rng.choice(kinds), rng.choice(words), address, pc
 
 
 def from_places(kind, word, section, relocations, rng):
@@ -138,6 +139,9 @@ def from_places(kind, word, section, relocations, rng):
         for register in (6, 7, 16):
             p = rng.choice([0, 1, 3, 8, 250])
             yield ("rules", register, p, *located), read(section, relocations, kind, word, k, register, p)
+        p, room = rng.choice([0, 1, 3, 8, 250]), rng.choice([0, 1, 2, 13, 40])
+        readings = [read(section, relocations, kind, word, k, register, p) for register in range(max(room // 2, 1))]
+        yield ("all", p, room, *located), all_rules(readings, room)
         if located[0] == 0:
             off = list(located)
             off[rng.choice([2, 4])] = rng.choice([len(section) + 1, NOWHERE])

@@ -9,6 +9,8 @@
  *     at KIND WORD RECORD HEADER
  *     function KIND WORD ADDRESS RECORD
  *     holder KIND WORD ADDRESS PC
+ *     entries KIND WORD ADDRESS PC
+ *     all P ROOM and the ten numbers: the answer, and the lent list with one element behind it
  */
 #include <inttypes.h>
 #include <stdio.h>
@@ -69,6 +71,17 @@ static void print_along(uint16_t reg, size_t room, unwind_located located) {
     free(lines);
 }
 
+static void print_all(uint64_t p, size_t room, unwind_located located) {
+    uint64_t *rules = malloc((room + 1) * sizeof *rules);
+    if (rules == NULL) exit(3);
+    for (size_t i = 0; i <= room; i++) rules[i] = BEFORE;
+    unwind_all_rules r = unwind_all_rules_at(section, bytes, located, p, rules, room);
+    print(&r, sizeof r);
+    printf(" ");
+    print(rules, (room + 1) * sizeof *rules);
+    free(rules);
+}
+
 static void ask(const char *key) {
     uint64_t n[MOST] = {0};
     char *word;
@@ -96,6 +109,13 @@ static void ask(const char *key) {
     } else if (strcmp(key, "holder") == 0) {
         unwind_holder r = unwind_record_of(section, bytes, n[0], n[1], n[2], n[3]);
         print(&r, sizeof r);
+    } else if (strcmp(key, "entries") == 0) {
+        unwind_entries r = unwind_entries_of(section, bytes, relocations, numbers, n[0], n[1], n[2], n[3]);
+        print(&r, sizeof r);
+    } else if (strcmp(key, "all") == 0) {
+        unwind_located l;
+        memcpy(&l, n + 2, sizeof l);
+        print_all(n[0], n[1], l);
     } else {
         exit(2);
     }

@@ -93,6 +93,20 @@ def holder(section, relocations, kind, word, address, pc):
     raise Refused(62)
 
 
+def entries_of(section, relocations, kind, word, address, pc):
+    _, k, place = holder(section, relocations, kind, word, address, pc)
+    records, headers = records_of(section, kind)
+    return [0, k, place, header_of(records[k], headers, relocations, kind)[0]]
+
+
+def all_rules(readings, room):
+    """The rules of registers 0, 1, .. by a reading of each."""
+    if readings[0][0]:
+        return [readings[0][0]] + [0] * 6 + [BEFORE] * (room + 1)
+    rules = [number for reading in readings[: room // 2] for number in reading[4:6]]
+    return [0, *readings[0][1:4], *readings[0][6:8], room // 2] + rules + [BEFORE] * (room + 1 - len(rules))
+
+
 def along(section, register, room, located):
     """The lines of a record in one run; what ended them is an answer."""
     number, header, header_end, record, record_end, _, _, _, word, _ = located
@@ -123,7 +137,7 @@ def along(section, register, room, located):
     return [0, len(numbers) // 7, *ending] + numbers + [BEFORE] * (room + 1 - len(numbers))
 
 
-JUDGES = {"locate": (locate, 9), "at": (at, 9), "function": (function, 2), "holder": (holder, 2)}
+JUDGES = {"locate": (locate, 9), "at": (at, 9), "function": (function, 2), "holder": (holder, 2), "entries": (entries_of, 3)}
 
 
 def expected(section, relocations, question):
