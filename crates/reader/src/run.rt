@@ -95,7 +95,9 @@ fn negate(s: &mut State)
     s.rules.signing = !s.rules.signing;
 }
 
-// A row, or the question that it is refused by; `initial` is the followed register's rule after the header.
+// A row, or the question that it is refused by; `initial` is the followed register's rule after the header. Out of line, so that
+// `perform` is small enough to stand in the loops of the readers.
+#[inline(never)]
 pub fn act(s: &mut State, q: u16, initial: Option<Rule>, row: Row) -> Result<(), Question>
     ensures { Acts result (run_of s.new) (act q initial row (run_of s.old)) }
 {
@@ -122,6 +124,7 @@ pub fn act(s: &mut State, q: u16, initial: Option<Rule>, row: Row) -> Result<(),
 }
 
 // An operation, or the question that it is refused by: a row is done, and a step is handed on. Question 66: no step in a header.
+#[inline(always)]
 pub fn perform(
     s: &mut State,
     q: u16,
