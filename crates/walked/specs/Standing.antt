@@ -1,5 +1,5 @@
 -- What the types of the code stand for, and the rules at an offset of a record that was located.
-use Rattle.std.specs.Prelude.{ℕ, Bool, true, false, List, Ok, Err}
+use Rattle.std.specs.Prelude.{ℕ, Bool, true, false, List, take, Ok, Err}
 use Rattle.std.specs.Prelude as code
 use Rattle.format.specs.Prelude.{pick, Result, good, bad, onward}
 use Rattle.format.specs.Rules.{AllRules, State, blank}
@@ -69,8 +69,12 @@ abbrev pub chain_as : List Frame → code.Result Ending Question → Result walk
 chain_as fs (Ok e) = good (record { frames = fs; ending = ending_number e })
 chain_as fs (Err q) = bad (number_of q)
 
+-- those of the array that are used
+abbrev pub frames_of : Walked → List Frame
+frames_of w = take w.count w.frames
+
 abbrev pub walked_of : Walked → Result walk.Chain
-walked_of w = chain_as w.frames.items w.ending
+walked_of w = chain_as (frames_of w) w.ending
 
 abbrev pub fault_of : Machine → Memory → (functions : List ℕ) → Fault
 fault_of m memory functions = record { machine = m; memory = memory; functions = placed_of functions }

@@ -13,13 +13,12 @@ ghost use Rattle.walk.specs.Found.{found_f, found};
 ghost use Rattle.walk.specs.Standing.{memory_of, slots, left_of, caller_as, step_of};
 ghost use Rattle.walked.specs.Entry.{numbers_of, chain_numbers, chain_stored, found_numbers, that_fit, found_answer, found_left};
 ghost use Rattle.walked.specs.Named.{names, operation_names, Marked, MarkedAll, MarksIn};
-ghost use Rattle.walked.specs.Standing.{rules_at, ruled_at, source_at, section_of, all_left, walked_of, fault_of};
+ghost use Rattle.walked.specs.Standing.{rules_at, ruled_at, source_at, section_of, all_left, frames_of, walked_of, fault_of};
 ghost use Rattle.walked.specs.Faults.{fault_by};
 
-use crate::chain::{Ending, Walked};
+use crate::chain::{Ending, MOST_FRAMES, Walked};
 use crate::fault::Fault;
 use crate::leaving::Leaving;
-use arrayvec::ArrayVec;
 use format::{Machine, Operation, Question, Row, Rules};
 use reader::location::Located;
 use reader::operation::Operations;
@@ -218,31 +217,34 @@ impl Fault<'_, '_, '_> {
     // frame's caller is refused it is the last.
     pub fn frames(&self, start: Caller) -> Walked
         ensures walked { walked_of result ≡ frames_f (section_of self.now.section) (fault_by self.now) 64 (caller_as start) }
-        ensures found { result.frames.items ≡ found_f (section_of self.now.section) (fault_by self.now) 64 (caller_as start) }
+        ensures found { frames_of result ≡ found_f (section_of self.now.section) (fault_by self.now) 64 (caller_as start) }
     {
         let mut caller = start;
-        let mut frames = ArrayVec::new();
-        'callers: while !frames.is_full() {
+        let mut frames = [Frame::default(); MOST_FRAMES];
+        for count in 0..MOST_FRAMES {
             let Some(holder) = walk::held(self.functions, caller.exact, caller.pc) else {
                 return Walked {
                     frames,
+                    count,
                     ending: Ok(Ending::Unheld),
                 };
             };
-            frames.push(Frame {
+            frames[count] = Frame {
                 position: holder.position,
                 pc: caller.pc,
-            });
+            };
             match self.caller_by(caller.registers, holder) {
                 Err(question) => {
                     return Walked {
                         frames,
+                        count: count + 1,
                         ending: Err(question),
                     };
                 }
                 Ok(None) => {
                     return Walked {
                         frames,
+                        count: count + 1,
                         ending: Ok(Ending::Undefined),
                     };
                 }
@@ -255,6 +257,7 @@ impl Fault<'_, '_, '_> {
         };
         Walked {
             frames,
+            count: MOST_FRAMES,
             ending: Ok(ending),
         }
     }
@@ -272,7 +275,7 @@ fn chain_of(
     start: Caller,
 ) -> Walked
     ensures walked { walked_of result ≡ pick (machine_ok machine.now) (pick (eqb (machine_of machine.now).word 8) (frames_f (section_of section.entry) (fault_of (machine_of machine.now) (memory_of memory.entry) functions.now) 64 (caller_as start)) (bad 12)) (bad 11) }
-    ensures found { result.frames.items ≡ pick (machine_ok machine.now && eqb (machine_of machine.now).word 8) (found_f (section_of section.entry) (fault_of (machine_of machine.now) (memory_of memory.entry) functions.now) 64 (caller_as start)) [] }
+    ensures found { frames_of result ≡ pick (machine_ok machine.now && eqb (machine_of machine.now).word 8) (found_f (section_of section.entry) (fault_of (machine_of machine.now) (memory_of memory.entry) functions.now) 64 (caller_as start)) [] }
 {
     let known = match lists::read_machine(machine) {
         Ok(known) => known,
@@ -320,13 +323,13 @@ fn stored(w: Walked, out: &mut [u64]) -> Answer
         Ok(ending) => ending,
         Err(question) => return Answer::from(question),
     };
-    if out.len() / walk::FRAME_STRIDE < w.frames.len() {
+    if out.len() / walk::FRAME_STRIDE < w.count {
         return Answer::from(Question::OtherRoom);
     }
-    walk::store(w.frames.as_slice(), out);
+    walk::store(&w.frames[..w.count], out);
     Answer {
         number: 0,
-        frames: w.frames.len() as u64,
+        frames: w.count as u64,
         ending: ending.number(),
     }
 }
@@ -334,17 +337,17 @@ fn stored(w: Walked, out: &mut [u64]) -> Answer
 // The frames that were found at the front of a lent list, where it has room for them, and how the walk ended or by
 // which question it was refused: 54 is one of these.
 fn found_stored(w: Walked, out: &mut [u64]) -> Answer
-    ensures result_value { numbers_of result ≡ found_numbers (onward (walked_of w) (fitting (length out.old))) (length (that_fit (length out.old) w.frames.items)) }
-    ensures out_after { out.new ≡ put out.old 0 (frame_numbers (that_fit (length out.old) w.frames.items)) }
+    ensures result_value { numbers_of result ≡ found_numbers (onward (walked_of w) (fitting (length out.old))) (length (that_fit (length out.old) (frames_of w))) }
+    ensures out_after { out.new ≡ put out.old 0 (frame_numbers (that_fit (length out.old) (frames_of w))) }
 {
-    if out.len() / walk::FRAME_STRIDE < w.frames.len() {
+    if out.len() / walk::FRAME_STRIDE < w.count {
         return match w.ending {
             Ok(_) => Answer::from(Question::OtherRoom),
             Err(question) => Answer::from(question),
         };
     }
-    walk::store(w.frames.as_slice(), out);
-    let frames = w.frames.len() as u64;
+    walk::store(&w.frames[..w.count], out);
+    let frames = w.count as u64;
     match w.ending {
         Ok(ending) => Answer {
             number: 0,
@@ -370,7 +373,7 @@ fn walked(
     functions: &[u64],
 ) -> Walked
     ensures walked { (room : ℕ) → walk_by (section_of section.entry) machine.now file.now pc stack functions.now room ≡ onward (walked_of result) (fitting room) }
-    ensures found { result.frames.items ≡ found (section_of section.entry) machine.now file.now pc stack functions.now }
+    ensures found { frames_of result ≡ found (section_of section.entry) machine.now file.now pc stack functions.now }
 {
     let Some(recorded) = walk::read_recorded(file) else {
         return Walked::refused(Question::Recorded);
