@@ -13,7 +13,7 @@ ghost use Rattle.walk.specs.Found.{found_f, found};
 ghost use Rattle.walk.specs.Standing.{memory_of, slots, left_of, caller_as, step_of};
 ghost use Rattle.walked.specs.Entry.{numbers_of, chain_numbers, chain_stored, found_numbers, that_fit, found_answer, found_left};
 ghost use Rattle.walked.specs.Named.{names, operation_names, Marked, MarkedAll, MarksIn};
-ghost use Rattle.walked.specs.Standing.{rules_at, ruled_at, source_at, section_of, all_left, frames_of, walked_of, fault_of};
+ghost use Rattle.walked.specs.Standing.{rules_at, ruled_at, source_at, section_of, all_left, start_of, frames_of, walked_of, fault_of};
 ghost use Rattle.walked.specs.Faults.{fault_by};
 
 use crate::chain::{Ending, MOST_FRAMES, Walked};
@@ -22,7 +22,7 @@ use crate::leaving::Leaving;
 use format::{Machine, Operation, Question, Row, Rules};
 use reader::location::Located;
 use reader::operation::Operations;
-use walk::{Caller, Frame, Holder, Memory};
+use walk::{Caller, Frame, Holder, Memory, Trailer};
 
 pub mod chain;
 pub mod fault;
@@ -265,17 +265,28 @@ impl Fault<'_, '_, '_> {
 
 // ---- the entry
 
-// 11 and 12 for the machine, and then the frames.
-// Kept: its parameters one by one: all but the start are `Fault`'s, which knows `ret` and is made once question 11 has passed.
+// 11 and 12 for the machine, and then the frames, from the registers of the record file. These are read last, so that
+// a machine is refused without them.
+// Kept: its parameters one by one: `Fault` knows `ret` and is made once question 11 has passed.
 fn chain_of(
     machine: &[u64],
+    file: &[u8],
+    trailer: Trailer,
     section: Section,
+    pc: u64,
     memory: Memory,
     functions: &[u64],
-    start: Caller,
 ) -> Walked
-    ensures walked { walked_of result ≡ pick (machine_ok machine.now) (pick (eqb (machine_of machine.now).word 8) (frames_f (section_of section.entry) (fault_of (machine_of machine.now) (memory_of memory.entry) functions.now) 64 (caller_as start)) (bad 12)) (bad 11) }
-    ensures found { frames_of result ≡ pick (machine_ok machine.now && eqb (machine_of machine.now).word 8) (found_f (section_of section.entry) (fault_of (machine_of machine.now) (memory_of memory.entry) functions.now) 64 (caller_as start)) [] }
+    requires { trailer.size ≤ 65536 }
+    ensures walked { walked_of result
+        ≡ pick (machine_ok machine.now)
+        (pick (eqb (machine_of machine.now).word 8)
+        (frames_f (section_of section.entry) (fault_of (machine_of machine.now) (memory_of memory.entry) functions.now)
+        64 (start_of trailer file.now pc)) (bad 12)) (bad 11) }
+    ensures found { frames_of result
+        ≡ pick (machine_ok machine.now && eqb (machine_of machine.now).word 8)
+        (found_f (section_of section.entry) (fault_of (machine_of machine.now) (memory_of memory.entry) functions.now)
+        64 (start_of trailer file.now pc)) [] }
 {
     let known = match lists::read_machine(machine) {
         Ok(known) => known,
@@ -284,6 +295,11 @@ fn chain_of(
     if known.word != 8 {
         return Walked::refused(Question::X64Word);
     }
+    let start = Caller {
+        registers: walk::registers(file, trailer.size, trailer.count),
+        pc,
+        exact: true,
+    };
     let fault = Fault {
         machine: known,
         section,
@@ -375,19 +391,14 @@ fn walked(
     ensures walked { (room : ℕ) → walk_by (section_of section.entry) machine.now file.now pc stack functions.now room ≡ onward (walked_of result) (fitting room) }
     ensures found { frames_of result ≡ found (section_of section.entry) machine.now file.now pc stack functions.now }
 {
-    let Some(recorded) = walk::read_recorded(file) else {
+    let Some(trailer) = walk::read_trailer(file) else {
         return Walked::refused(Question::Recorded);
     };
     let memory = Memory {
         address: stack,
-        bytes: recorded.stack,
+        bytes: &file[..trailer.size],
     };
-    let start = Caller {
-        registers: recorded.registers,
-        pc,
-        exact: true,
-    };
-    chain_of(machine, section, memory, functions, start)
+    chain_of(machine, file, trailer, section, pc, memory, functions)
 }
 
 // The frames of a recorded fault, by the section: 73 for the record file, 11 and 12 for the machine, what a frame is refused by, and 54 last.
