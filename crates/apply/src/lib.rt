@@ -5,6 +5,7 @@ ghost use Rattle.std.specs.Prelude.{◌≡◌, ℕ, ◌+◌, ◌^◌, ◌<◌, �
 ghost use Rattle.std.proofs.Math.Option.{none, some};
 ghost use Rattle.format.specs.Prelude.{after};
 ghost use Rattle.format.specs.Coded.{numbered};
+ghost use Rattle.format.specs.Put.{put};
 ghost use Rattle.format.specs.Lists.{count, relocation_stride, relocation_at, relocations_of};
 ghost use Rattle.format.proofs.Asked.{option_of};
 ghost use Rattle.apply.specs.Kinds.{kind_of, bits_of, bytes_of, size_ok};
@@ -375,6 +376,16 @@ fn number_at(copy: &[u8], p: usize, w: Width) -> u64
     }
 }
 
+// Bytes at the front of a buffer. The library's copy becomes memmove, which the archive for C must not need.
+fn copy_in(out: &mut [u8], bytes: &[u8])
+    requires { length bytes.now ≤ length out.old }
+    ensures { out.new ≡ put out.old 0 bytes.now }
+{
+    for i in 0..bytes.len() {
+        out[i] = bytes[i];
+    }
+}
+
 impl Placement<'_> {
     // What `made` makes of what a field of Set and Sub holds and of symbol plus addend, both as 64 bits: its low bits are stored, and the
     // bits above the field stay.
@@ -439,7 +450,7 @@ impl Placement<'_> {
         if !self.all_near(relocs) {
             return Err(Question::Distance);
         }
-        out[..n].copy_from_slice(bytes);
+        copy_in(&mut out[..n], bytes);
         self.store_all(&mut out[..n], relocs);
         Ok(())
     }
