@@ -161,8 +161,9 @@ fn in_list(relocs: &[u64], i: usize) -> InList
     InList {
         before: i.checked_sub(1).map(|j| reloc_at(relocs, j)),
         reloc,
-        kind: Kind::from(reloc.kind),
         behind: (i + 1 < count(relocs)).then(|| reloc_at(relocs, i + 1)),
+        // Last, so that what is asked by kind stands right behind.
+        kind: Kind::from(reloc.kind),
     }
 }
 
@@ -242,8 +243,13 @@ impl Placement<'_> {
         ensures { result ≡ option_of (address_of (symbols_of self.now.addresses.now) symbol) }
     {
         let n = self.addresses.len() / ADDRESS_STRIDE;
-        let i = (0..n).find(|i| self.addresses[ADDRESS_STRIDE * *i] == symbol)?;
-        Some(self.addresses[ADDRESS_STRIDE * i + 1])
+        // A loop, since `find` takes an instruction more in each turn, and a call spends most of its time here.
+        for i in 0..n {
+            if self.addresses[ADDRESS_STRIDE * i] == symbol {
+                return Some(self.addresses[ADDRESS_STRIDE * i + 1]);
+            }
+        }
+        None
     }
 
     // Symbol plus addend.
@@ -272,6 +278,8 @@ impl Placement<'_> {
     }
 
     // Symbol plus addend less that of the relocation behind.
+    // Inlined, as `true_value` and `value` are: for a call of one the whole InList would be stored.
+    #[inline(always)]
     #[tactic(auto, unfolding(crate::specs::Values::apart, crate::specs::Standing::beside, format::specs::Prelude::after))]
     fn apart(&self, x: &InList) -> Option<i128>
         ensures { result ≡ option_of (apart (symbols_of self.now.addresses.now) (meant x.now.reloc) (beside x.now.behind)) }
@@ -281,6 +289,7 @@ impl Placement<'_> {
     }
 
     // The value of a relocation.
+    #[inline(always)]
     #[tactic(auto, unfolding(crate::specs::Standing::true_value))]
     fn true_value(&self, x: &InList) -> Option<i128>
         ensures { result ≡ option_of (true_value x.now.kind (placed self.now) (meant x.now.reloc) (beside x.now.behind)) }
@@ -295,6 +304,7 @@ impl Placement<'_> {
     }
 
     // The value as it stands in its field, where it fits.
+    #[inline(always)]
     #[tactic(auto, using(crate::proofs::Tests::no_value))]
     fn value(&self, f: &Field) -> Option<u64>
         ensures { result ≡ option_of (value_as f.now.of.now.kind (placed self.now) (meant f.now.of.now.reloc) (beside f.now.of.now.behind)) }
