@@ -8,19 +8,10 @@ ghost use Rattle.reader.specs.States.{run_of, Acts, Performs};
 
 use crate::location::Located;
 use crate::operation::Operations;
-use arrayvec::ArrayVec;
+pub use crate::state::State;
 use format::{CfaRule, Operation, Question, Row, Rule, Rules};
 
 // ---- the state
-
-// The rules that hold, and those stored, the last at the end.
-// Kept: the followed register and its rule after the header go beside it to `restore`, `act` and `perform`. They stay the same in a run over an entry's
-// operations: as fields of the state they would be in what each of the eight steps may change, and the contract of each would say that they do not.
-#[derive(Drop)]
-pub struct State {
-    pub rules: Rules,
-    pub stored: ArrayVec<Rules, 16>,
-}
 
 // The state in front of a header's operations.
 #[tactic(auto, unfolding(crate::specs::States::run_of, crate::specs::OneRegister::start))]
@@ -29,7 +20,8 @@ pub fn start() -> State
 {
     State {
         rules: Rules::default(),
-        stored: ArrayVec::new(),
+        depth: 0,
+        stored: [Rules::default(); 16],
     }
 }
 
@@ -75,10 +67,12 @@ fn restore(s: &mut State, q: u16, reg: u16, initial: Option<Rule>) -> Result<(),
 fn remember(s: &mut State) -> Result<(), Question>
     ensures { Acts result (run_of s.new) (remember (run_of s.old)) }
 {
-    let rules = s.rules;
-    let Ok(()) = s.stored.try_push(rules) else {
+    let depth = s.depth;
+    if 16 <= depth {
         return Err(Question::StatesRoom);
-    };
+    }
+    s.stored[depth] = s.rules;
+    s.depth = depth + 1;
     Ok(())
 }
 
@@ -86,8 +80,10 @@ fn remember(s: &mut State) -> Result<(), Question>
 fn recall(s: &mut State) -> Result<(), Question>
     ensures { Acts result (run_of s.new) (recall (run_of s.old).stored (run_of s.old)) }
 {
-    let rules = s.stored.pop().ok_or(Question::States)?;
+    let last = s.depth.checked_sub(1).ok_or(Question::States)?;
+    let rules = s.stored[last];
     s.rules = rules;
+    s.depth = last;
     Ok(())
 }
 
