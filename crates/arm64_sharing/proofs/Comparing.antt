@@ -37,53 +37,64 @@ agree_steps b [] ds = refl
 agree_steps b (c ∷ cs) [] = refl
 agree_steps b (c ∷ cs) (d ∷ ds) =
     and_where (same_code (simple b c) (simple b d)) _ _ λ e.
-        agree_steps (pair_behind b (simple b c)) cs ds
-        ∙ ap (λ x. leads (simplify (pair_behind b (simple b c)) cs) (simplify (pair_behind b x) ds)) (equal (simple b c) (simple b d) e)
+    agree_steps (pair_behind b (simple b c)) cs ds
+    ∙ ap (λ x. leads (simplify (pair_behind b (simple b c)) cs) (simplify (pair_behind b x) ds))
+    (equal (simple b c) (simple b d) e)
 
--- of the steps of a run of n codes those of `left` are still to be compared, with the other's codes from the j-th on
+-- a run's codes from the j-th on
+abbrev pub codes_from : List ℕ → Run → ℕ → List Code
+codes_from ds o j = each (saved_at ds o) j (o.count - j)
+
+-- of the steps of a run of n codes those of `left` are still to be compared,
+-- with the other's codes from the j-th on
 pub record Agreeing (whole : Bool) (ds : List ℕ) (o : Run) (n : ℕ) (left : List Step) (j : ℕ) : Type 0 where
   pub count : j + length left ≡ n
-  pub same : agree left (each (saved_at ds o) j (o.count - j)) ≡ whole
+  pub same : agree left (codes_from ds o j) ≡ whole
 
 pub agreeing_start : (cs ds : List ℕ) (r o : Run) {left : List Step} → left ≡ steps no_pair (saves cs r)
     → Agreeing (leads (simplify no_pair (saves cs r)) (simplify no_pair (saves ds o))) ds o r.count left 0
 agreeing_start cs ds r o {left} e =
-    let n : length left ≡ r.count = ap length e ∙ steps-length no_pair (saves cs r) ∙ saves-length cs r in
+    let n : length left ≡ r.count
+    = ap length e ∙ steps-length no_pair (saves cs r) ∙ saves-length cs r in
     record {
       count = omega (arith, n);
-      same = ap (λ ss. agree ss (each (saved_at ds o) 0 (o.count - 0))) e ∙ ap (agree (steps no_pair (saves cs r))) (rest_start ds o)
+      same = ap (λ ss. agree ss (codes_from ds o 0)) e
+          ∙ ap (agree (steps no_pair (saves cs r))) (rest_start ds o)
           ∙ agree_steps no_pair (saves cs r) (saves ds o);
     }
 
-module _ {whole : Bool} {ds : List ℕ} {o : Run} {n j : ℕ} {left later : List Step} {s : Step} (a : Agreeing whole ds o n left j) (e : left ≡ s ∷ later) where
-  more : suc (length later) + j ≡ n
-  more = let l = ap length e in omega (arith, l, a.count)
+module _ {t : Bool} {ds : List ℕ} {o : Run} {n j : ℕ} {left : List Step} (a : Agreeing t ds o n left j)
+  where
+    module _ {later : List Step} {s : Step} (e : left ≡ s ∷ later) where
+      more : suc (length later) + j ≡ n
+      more = let l = ap length e in omega (arith, l, a.count)
 
-  pub agreeing_low : j < n
-  agreeing_low = omega (arith, more)
+      pub agreeing_low : j < n
+      agreeing_low = omega (arith, more)
 
-  module _ {d w : Code} (h : n ≤ o.count) (f : d ≡ saved_at ds o j) (g : w ≡ simple s.before d) where
-    cut : (same_code s.written w && agree later (each (saved_at ds o) (j + 1) (o.count - (j + 1)))) ≡ whole
+      module _ {d w : Code} (h : n ≤ o.count) (f : d ≡ saved_at ds o j) (g : w ≡ simple s.before d) where
+        cut : (same_code s.written w && agree later (codes_from ds o (j + 1))) ≡ t
+        unfolding agree
+        cut =
+            ap (λ x. same_code s.written x && agree later (codes_from ds o (j + 1)))
+            (g ∙ ap (simple s.before) f)
+            ∙ sym (ap (agree (s ∷ later)) (each_next (saved_at ds o) o.count j (omega (arith, more, h))))
+            ∙ sym (ap (λ ss. agree ss (codes_from ds o j)) e)
+            ∙ a.same
+
+        pub agreeing_stopped : same_code s.written w ≡ false → false ≡ t
+        agreeing_stopped k = sym (ap (λ b. b && agree later (codes_from ds o (j + 1))) k) ∙ cut
+
+        pub agreeing_turn : same_code s.written w ≡ true → Agreeing t ds o n later (j + 1)
+        agreeing_turn k =
+            record {
+              count = omega (arith, more);
+              same = sym (ap (λ b. b && agree later (codes_from ds o (j + 1))) k) ∙ cut;
+            }
+
+    pub agreeing_ended : left ≡ [] → true ≡ t
     unfolding agree
-    cut =
-        ap (λ x. same_code s.written x && agree later (each (saved_at ds o) (j + 1) (o.count - (j + 1)))) (g ∙ ap (simple s.before) f)
-        ∙ sym (ap (agree (s ∷ later)) (each_next (saved_at ds o) o.count j (omega (arith, more, h))))
-        ∙ sym (ap (λ ss. agree ss (each (saved_at ds o) j (o.count - j))) e)
-        ∙ a.same
-
-    pub agreeing_stopped : same_code s.written w ≡ false → false ≡ whole
-    agreeing_stopped k = sym (ap (λ t. t && agree later (each (saved_at ds o) (j + 1) (o.count - (j + 1)))) k) ∙ cut
-
-    pub agreeing_turn : same_code s.written w ≡ true → Agreeing whole ds o n later (j + 1)
-    agreeing_turn k =
-        record {
-          count = omega (arith, more);
-          same = sym (ap (λ t. t && agree later (each (saved_at ds o) (j + 1) (o.count - (j + 1)))) k) ∙ cut;
-        }
-
-pub agreeing_ended : {whole : Bool} {ds : List ℕ} {o : Run} {n j : ℕ} {left : List Step} → Agreeing whole ds o n left j → left ≡ [] → true ≡ whole
-unfolding agree
-agreeing_ended {whole} {ds} {o} {n} {j} {left} a e = sym (ap (λ ss. agree ss (each (saved_at ds o) j (o.count - j))) e) ∙ a.same
+    agreeing_ended e = sym (ap (λ ss. agree ss (codes_from ds o j)) e) ∙ a.same
 
 -- ---- by lengths
 

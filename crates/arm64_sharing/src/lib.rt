@@ -22,7 +22,8 @@ pub fn put_run(out: &mut [u8], at: usize, size: usize, run: &Codes) -> usize
     leb::byte(out, at + size, 0xe4)
 }
 
-// Whether a run is the first part of another, which is as long or longer: the pair before is the same in both while their codes are, so one run has it.
+// Whether a run is the first part of another, which is as long or longer. The pair before is the same in both
+// while their codes are, so that of one run serves.
 fn leads_long(run: &Codes, other: &Codes) -> bool
     requires { run.now.run.count ≤ other.now.run.count }
     ensures { result ≡ leads (written_in run.now) (written_in other.now) }
