@@ -17,9 +17,11 @@ copy_start out bytes h = start (omega arith)
 pub copy_turn : {out₀ out bytes : List ℕ} {i : ℕ} → Storing out₀ out 0 i bytes (drop i bytes) → i < length bytes
     → Storing out₀ (set out i (get_or bytes i 0)) 0 (i + 1) bytes (drop (i + 1) bytes)
 copy_turn {out₀} {out} {bytes} {i} s h =
-    let e : drop i bytes ≡ get_or bytes i 0 ∷ drop (i + 1) bytes = rw add-one (drop-cons bytes i 0 h) in turn (rw e at s)
+    let e : drop i bytes ≡ get_or bytes i 0 ∷ drop (i + 1) bytes = rw add-one (drop-cons bytes i 0 h) in
+    turn (rw e at s)
 
-pub copy_ended : {out₀ out bytes : List ℕ} {i : ℕ} → Storing out₀ out 0 i bytes (drop i bytes) → length bytes ≤ i → out ≡ put out₀ 0 bytes
+pub copy_ended : {out₀ out bytes : List ℕ} {i : ℕ} → Storing out₀ out 0 i bytes (drop i bytes) → length bytes ≤ i
+    → out ≡ put out₀ 0 bytes
 copy_ended {out₀} {out} {bytes} {i} s h = let e = none_left bytes i h in (ended (rw e at s)).stored
 
 -- a front that is copied over whole holds the copy
@@ -27,4 +29,5 @@ pub whole_front : (out bytes : List ℕ) → length bytes ≤ length out → put
 whole_front out bytes h =
     let xs : List ℕ = take (length bytes) out in
     let n : length xs ≡ length bytes = length-take-le (length bytes) out h in
-    sym (take_all (length bytes) (put xs 0 bytes) (omega (arith, n, length-put xs 0 bytes))) ∙ front_is xs bytes (omega (arith, n))
+    sym (take_all (length bytes) (put xs 0 bytes) (omega (arith, n, length-put xs 0 bytes)))
+    ∙ front_is xs bytes (omega (arith, n))

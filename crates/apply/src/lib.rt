@@ -243,7 +243,7 @@ impl Placement<'_> {
         ensures { result ≡ option_of (address_of (symbols_of self.now.addresses.now) symbol) }
     {
         let n = self.addresses.len() / ADDRESS_STRIDE;
-        // A loop, since `find` takes an instruction more in each turn, and a call spends most of its time here.
+        // A loop: `find` takes an instruction more in each turn, and most of the time goes here.
         for i in 0..n {
             if self.addresses[ADDRESS_STRIDE * i] == symbol {
                 return Some(self.addresses[ADDRESS_STRIDE * i + 1]);
