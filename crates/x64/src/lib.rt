@@ -183,7 +183,8 @@ impl Iterator for UnwindCodes<'_, '_> {
     // A row that ends no instruction yields no code: the iterator goes on to the next.
     // Kept: a while. It is the next of an iterator, whose place among the records is its state; a range there in place of the number gives the same
     // loop by while let, and the ghost field would speak of the range's two ends.
-    // Always inlined: as a call it stores its place and the code that it yields, and divides for `len`, at each code of five walks over a function's.
+    // Always inlined: as a call it stores its place and the code that it yields, and divides for `len`,
+    // at each code of each walk.
     #[inline(always)]
     fn next(&mut self) -> Option<UnwindCode> {
         while self.next < self.records.len() {

@@ -11,7 +11,9 @@ use Rattle.x64.proofs.Walks.{codes_few}
 use Rattle.x64.proofs.given.Span.slots.Goals as goal
 
 pub loop-c-init : goal.loop-c-init
-loop-c-init c = omega (arith, ap slots (ap codes_left c.into_iter-c-iterator.ensures.into_iter_gives ∙ c.codes-c-items.ensures))
+loop-c-init c =
+    let e = ap codes_left c.into_iter-c-iterator.ensures.into_iter_gives ∙ c.codes-c-items.ensures in
+    omega (arith, ap slots e)
 
 pub overflow_add-held : goal.overflow_add-held
 unfolding slots
