@@ -8,6 +8,7 @@ pub mod Stores
 pub mod Loops
 pub mod Distances
 pub mod Outside
+pub mod Copies
 pub mod Entry
 pub mod Pairs
 pub mod Vectors

@@ -5,6 +5,7 @@ ghost use Rattle.std.specs.Prelude.{◌≡◌, ℕ, ◌+◌, ◌^◌, ◌<◌, �
 ghost use Rattle.std.proofs.Math.Option.{none, some};
 ghost use Rattle.format.specs.Prelude.{after};
 ghost use Rattle.format.specs.Coded.{numbered};
+ghost use Rattle.format.specs.Put.{put};
 ghost use Rattle.format.specs.Lists.{count, relocation_stride, relocation_at, relocations_of};
 ghost use Rattle.format.proofs.Asked.{option_of};
 ghost use Rattle.apply.specs.Kinds.{kind_of, bits_of, bytes_of, size_ok};
@@ -160,8 +161,9 @@ fn in_list(relocs: &[u64], i: usize) -> InList
     InList {
         before: i.checked_sub(1).map(|j| reloc_at(relocs, j)),
         reloc,
-        kind: Kind::from(reloc.kind),
         behind: (i + 1 < count(relocs)).then(|| reloc_at(relocs, i + 1)),
+        // Last, so that what is asked by kind stands right behind.
+        kind: Kind::from(reloc.kind),
     }
 }
 
@@ -241,8 +243,13 @@ impl Placement<'_> {
         ensures { result ≡ option_of (address_of (symbols_of self.now.addresses.now) symbol) }
     {
         let n = self.addresses.len() / ADDRESS_STRIDE;
-        let i = (0..n).find(|i| self.addresses[ADDRESS_STRIDE * *i] == symbol)?;
-        Some(self.addresses[ADDRESS_STRIDE * i + 1])
+        // A loop: `find` takes an instruction more in each turn, and most of the time goes here.
+        for i in 0..n {
+            if self.addresses[ADDRESS_STRIDE * i] == symbol {
+                return Some(self.addresses[ADDRESS_STRIDE * i + 1]);
+            }
+        }
+        None
     }
 
     // Symbol plus addend.
@@ -271,6 +278,8 @@ impl Placement<'_> {
     }
 
     // Symbol plus addend less that of the relocation behind.
+    // Inlined, as `true_value` and `value` are: for a call of one the whole InList would be stored.
+    #[inline(always)]
     #[tactic(auto, unfolding(crate::specs::Values::apart, crate::specs::Standing::beside, format::specs::Prelude::after))]
     fn apart(&self, x: &InList) -> Option<i128>
         ensures { result ≡ option_of (apart (symbols_of self.now.addresses.now) (meant x.now.reloc) (beside x.now.behind)) }
@@ -280,6 +289,7 @@ impl Placement<'_> {
     }
 
     // The value of a relocation.
+    #[inline(always)]
     #[tactic(auto, unfolding(crate::specs::Standing::true_value))]
     fn true_value(&self, x: &InList) -> Option<i128>
         ensures { result ≡ option_of (true_value x.now.kind (placed self.now) (meant x.now.reloc) (beside x.now.behind)) }
@@ -294,6 +304,7 @@ impl Placement<'_> {
     }
 
     // The value as it stands in its field, where it fits.
+    #[inline(always)]
     #[tactic(auto, using(crate::proofs::Tests::no_value))]
     fn value(&self, f: &Field) -> Option<u64>
         ensures { result ≡ option_of (value_as f.now.of.now.kind (placed self.now) (meant f.now.of.now.reloc) (beside f.now.of.now.behind)) }
@@ -375,6 +386,16 @@ fn number_at(copy: &[u8], p: usize, w: Width) -> u64
     }
 }
 
+// Bytes at the front of a buffer. The library's copy becomes memmove, which the archive for C must not need.
+fn copy_in(out: &mut [u8], bytes: &[u8])
+    requires { length bytes.now ≤ length out.old }
+    ensures { out.new ≡ put out.old 0 bytes.now }
+{
+    for i in 0..bytes.len() {
+        out[i] = bytes[i];
+    }
+}
+
 impl Placement<'_> {
     // What `made` makes of what a field of Set and Sub holds and of symbol plus addend, both as 64 bits: its low bits are stored, and the
     // bits above the field stay.
@@ -439,7 +460,7 @@ impl Placement<'_> {
         if !self.all_near(relocs) {
             return Err(Question::Distance);
         }
-        out[..n].copy_from_slice(bytes);
+        copy_in(&mut out[..n], bytes);
         self.store_all(&mut out[..n], relocs);
         Ok(())
     }

@@ -21,12 +21,12 @@ use Rattle.arm64.specs.Lists.{Function, function_stride, epilogue_stride, code_s
 use Rattle.arm64.specs.Reader.{Unwound, all_codes, full_record, unwound_by, fits_in, read_arm64}
 use Rattle.arm64.specs.Writer.{code_ok_at, codes_ok_in, epilogue_ok_at, function_ok_at, codes_in, lists_ok, is_packed, record_bytes, function_asks, row_bytes, info_of, markers_from, rows_of, infos_of, no_record, arm64, arm64_answer}
 use Rattle.arm64.proofs.WriterLaws.{row_length}
-use Rattle.arm64_back.specs.Back.{whole_code, whole_codes, SameUnwound, given, written, ReadBack, second_word, EntryWord, BytesAt}
+use Rattle.arm64_back.specs.Back.{whole_code, whole_codes, SameUnwound, given, written, ReadBack, second_word, EntryWord, SameReading, BytesAt}
 use Rattle.arm64_back.proofs.RunBack.{stands_behind, stands_before, stands_first, stands_right}
 use Rattle.arm64_back.proofs.HeaderBack.{word_back}
 use Rattle.arm64_back.proofs.SameReadings.{written_means, many_epilogues, many_codes}
 use Rattle.arm64_back.proofs.RecordBack.{Asked, all_asked, ask_yes, record_read, record_whole}
-use Rattle.arm64_back.proofs.PackedForm.{word_for, word_fits}
+use Rattle.arm64_back.proofs.PackedForm.{word_for, word_fits, packed_word_as_full}
 use Rattle.arm64_back.proofs.PackedForm as packed
 use Rattle.std.proofs.lemmas.Bool.{and_parts, and_from}
 
@@ -274,3 +274,15 @@ module _ (fs es cs : List ℕ) (r : Room) (w : Written) (e : arm64_answer fs es 
     pub marker_packed : is_packed this ≡ true → get_or w.places k 0 ≡ no_record
     unfolding arm64
     marker_packed t = ap (λ x. get_or x.places k 0) (sym wrote.is) ∙ packed_marker 0 (functions_of fs es cs) k this there t
+
+    -- Where it is packed, the word means what the function's full record would mean, wherever that stood.
+    pub arm64_packed : is_packed this ≡ true → (s : List ℕ) (place : ℕ) (bytes : List ℕ) (p : ℕ)
+        → BytesAt bytes p (record_bytes this)
+        → SameReading (unwound_by (second_word w.bytes k) s place) (full_record bytes p)
+    unfolding arm64
+    arm64_packed t s place bytes p u =
+        let word : second_word w.bytes k ≡ word_for this =
+        ap (λ x. second_word x.bytes k) (sym wrote.is)
+        ∙ second_word_lem this this_asked (functions_of fs es cs) k there ∙ packed_word this this_asked t in
+        subst (λ (n : ℕ). SameReading (unwound_by n s place) (full_record bytes p)) (sym word)
+        (packed_word_as_full this this_asked t s place bytes p u)

@@ -18,7 +18,7 @@ use Rattle.arm64.specs.Reader.{read_arm64}
 use Rattle.arm64.specs.Writer.{arm64, arm64_answer}
 use Rattle.arm64.proofs.WriterLaws.{markers_length}
 use Rattle.arm64_back.specs.Back.{given, ReadBack, EntryWord, second_word}
-use Rattle.arm64_back.specs.Together.{Roomy}
+use Rattle.arm64_back.specs.Together.{BuffersBack}
 use Rattle.arm64_back.proofs.Arm64Back.{wrote, second_behind, arm64_read}
 
 pub record Rooms (r : Room) (w : Written) : Type 0 where
@@ -58,9 +58,9 @@ module _ (fs es cs p b q s : List ℕ) {p' b' s' : List ℕ} (placed : p' ≡ af
       ap (λ x. get_or x k 0) marks ∙ get_or-append w.places (drop (length w.places) p) 0 k (omega (arith, many w a))
 
   -- What the writer stored, read by a word that may stand in function k's row and at its marker.
-  pub buffers_back : (k word : ℕ) (es' cs' : List ℕ) (w : Written) → arm64_answer fs es cs (room_in p b q s) ≡ accepted w
-      → k < count function_stride fs → EntryWord (numbered_function fs es cs k) b' k word → Roomy (numbered_function fs es cs k) es' cs'
-      → ReadBack (given (numbered_function fs es cs k)) (read_arm64 word s' (get_or p' k 0) es' cs')
+  pub buffers_back : (k word : ℕ) (es' cs' : List ℕ)
+      → BuffersBack fs es cs (arm64_answer fs es cs (room_in p b q s)) k b' word es' cs'
+      (read_arm64 word s' (get_or p' k 0) es' cs')
   unfolding afterwards arm64 functions_of
   buffers_back k word es' cs' w a l entry roomy =
       let all = wrote fs es cs (room_in p b q s) w a in

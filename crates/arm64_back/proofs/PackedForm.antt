@@ -1,4 +1,4 @@
--- A packed function: what its word says.
+-- A packed function: what its word says, and that its full record would say the same.
 use mathlib.Core.Path.{◌≡◌, refl, subst, sym}
 use mathlib.Core.Bool.{true, ◌&&◌}
 use mathlib.Core.List.{List, [], ◌∷◌}
@@ -7,13 +7,14 @@ use Rattle.format.specs.Prelude.{Result}
 use Rattle.arm64.specs.declared.Packed.{Packed}
 use Rattle.arm64.specs.Lists.{Epilogue, Function}
 use Rattle.arm64.specs.Runs.{leads}
-use Rattle.arm64.specs.Reader.{Unwound, epilogue, unwound_by}
+use Rattle.arm64.specs.Reader.{Unwound, epilogue, unwound_by, full_record}
 use Rattle.arm64.specs.Packing.{candidate, packed_word, stands_for}
-use Rattle.arm64.specs.Writer.{instructions, prologue_run, epilogue_run, ends_with, packed_for, is_packed}
+use Rattle.arm64.specs.Writer.{instructions, prologue_run, epilogue_run, ends_with, packed_for, is_packed, record_bytes}
 use Rattle.arm64.proofs.PackedBack.{Back, held, word_low, packed_back}
-use Rattle.arm64_back.specs.Back.{SameEpilogues, given, ReadBack}
+use Rattle.arm64_back.specs.Back.{SameEpilogues, given, written, ReadBack, SameReading, BytesAt}
 use Rattle.arm64_back.proofs.ScopeBack.{Placed, AllPlaced}
-use Rattle.arm64_back.proofs.RecordBack.{Asked, Only, only}
+use Rattle.arm64_back.proofs.SameReadings.{both_same, written_means}
+use Rattle.arm64_back.proofs.RecordBack.{Asked, Only, only, record_read}
 use Rattle.std.proofs.lemmas.Bool.{and_parts}
 
 -- the word of a packed function
@@ -55,3 +56,17 @@ module _ (f : Function) (a : Asked f) (t : is_packed f ≡ true) where
       let e : Epilogue = o.one in
       let p : Placed f e = (subst (AllPlaced f) o.are a.epilogues).0 in
       one_back f e o.are (packed_back f e a.held.whole p.whole p.low o.passes s place)
+
+  -- A packed word means what the function's full record would mean, wherever that stood.
+  pub packed_word_as_full : (s : List ℕ) (place : ℕ) (bytes : List ℕ) (p : ℕ)
+      → BytesAt bytes p (record_bytes f)
+      → SameReading (unwound_by (word_for f) s place) (full_record bytes p)
+  packed_word_as_full s place bytes p u =
+      let b = word_back s place in
+      record {
+        first = b.unwound;
+        second = written f;
+        one = b.answer;
+        other = record_read f a bytes p u;
+        same = both_same b.unwound (written f) (given f) b.same (written_means f);
+      }

@@ -83,3 +83,11 @@ second_word bytes k = word_at bytes (8 * k + 4)
 pub record EntryWord (f : Function) (bytes : List ℕ) (k word : ℕ) : Type 0 where
   pub packed : is_packed f ≡ true → word ≡ second_word bytes k
   pub placed : is_packed f ≡ false → word % 4 ≡ 0
+
+-- two readers answer, and their answers say the same
+pub record SameReading (q r : Result Unwound) : Type 0 where
+  pub first : Unwound
+  pub second : Unwound
+  pub one : q ≡ good first
+  pub other : r ≡ good second
+  pub same : SameUnwound first second

@@ -7,12 +7,14 @@ use Rattle.format.specs.Prelude.{pick, Result, good}
 use Rattle.format.specs.declared.Counts.{Counts}
 use Rattle.format.specs.Coded.{Outcome}
 use Rattle.format.specs.Lists.{count}
+use Rattle.format.specs.Writer.{Written}
+use Rattle.format.specs.Questions.{Answer, accepted}
 use Rattle.arm64.specs.declared.Arm64Reading.{Arm64Reading}
 use Rattle.arm64.specs.Lists.{Function, function_stride, epilogue_stride, code_stride, numbered_function}
 use Rattle.arm64.specs.Packing.{candidate, packed_word}
 use Rattle.arm64.specs.Reader.{Unwound, all_codes, read_arm64, reading_of, epilogues_after, codes_after}
 use Rattle.arm64.specs.Writer.{instructions, prologue_run, is_packed, record_bytes, no_record, function_asks}
-use Rattle.arm64_back.specs.Back.{SameUnwound, given, second_word, whole_codes, BytesAt}
+use Rattle.arm64_back.specs.Back.{SameUnwound, ReadBack, EntryWord, given, second_word, whole_codes, BytesAt}
 
 -- ---- what a reader does: its answer, and what its lent lists hold at exit
 
@@ -61,6 +63,16 @@ finished_word markers bytes k placed = pick (eqb (get_or markers k 0) no_record)
 unfoldable pub row_read : Outcome → (markers bytes info : List ℕ) → (k placed : ℕ) → (es cs : List ℕ) → Option (Result Unwound)
 row_read o markers bytes info k placed es cs =
     pick (has_row o k) (some (read_arm64 (finished_word markers bytes k placed) info (get_or markers k 0) es cs)) none
+
+-- What a reader answers of the buffers that were lent to the writer, by function k's row in `bytes` as it may
+-- stand in the finished file: where the list was accepted, and the reader's lists have room for as many
+-- epilogues and codes as were given, the function as it was given.
+abbrev pub BuffersBack : (fs es cs : List ℕ) → Answer → (k : ℕ) → (bytes : List ℕ) → (word : ℕ)
+    → (es' cs' : List ℕ) → Result Unwound → Type 0
+BuffersBack fs es cs a k bytes word es' cs' r =
+    (w : Written) → a ≡ accepted w → k < count function_stride fs
+    → EntryWord (numbered_function fs es cs k) bytes k word
+    → Roomy (numbered_function fs es cs k) es' cs' → ReadBack (given (numbered_function fs es cs k)) r
 
 -- an answer that says the same as what was given
 pub record GivenBack (f : Function) (a : code.Option Arm64Reading) (es es' cs cs' : List ℕ) : Type 0 where

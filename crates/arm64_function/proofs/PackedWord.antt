@@ -15,8 +15,9 @@ use Rattle.format.proofs.ListLaws.{each-length, in_range}
 use Rattle.format.proofs.Choice.{is_true}
 use Rattle.arm64.specs.declared.Code.{Code}
 use Rattle.arm64.specs.Lists.{Epilogue, Function, function_stride, epilogue_stride, numbered_code, numbered_epilogue, numbered_function}
-use Rattle.arm64.specs.Packing.{candidate, packed_word, stands_for}
-use Rattle.arm64.specs.Runs.{no_pair, simplify, run_fits, backwards, run_bytes, run_size, leads, is_in, own_runs, runs_bytes, place_in, index_of}
+use Rattle.arm64.specs.declared.Packed.{Packed}
+use Rattle.arm64.specs.Packing.{candidate, packed_word, stands_for, tally, tallies, nothing_yet, as_fields}
+use Rattle.arm64.specs.Runs.{no_pair, simplify, resolve, run_fits, backwards, run_bytes, run_size, leads, is_in, own_runs, runs_bytes, place_in, index_of}
 use Rattle.arm64.specs.Writer.{codes_in as codesOfLists, prologue_run, epilogue_run, codes_of, index_in, instructions, longest, ends_with, only_one, packed_for, is_packed, size_ok}
 use Rattle.arm64_simple.specs.declared.Run.{Run}
 use Rattle.arm64_simple.specs.Saves.{saves}
@@ -27,6 +28,17 @@ use Rattle.arm64_function.specs.PackedWord.{shared_in, packed_at, Only}
 use Rattle.arm64_function.proofs.Given.{prologue_same, epilogue_run_lem, epilogues_same, codes_same, index_same, starts_same, ready}
 use Rattle.arm64_function.proofs.Own.{run_size_lem, leading}
 use Rattle.arm64_function.proofs.Asked.{passed, values_same}
+
+-- ---- a packed word has its flag, so it is never 0
+
+tallies_flag : (p : Packed) (cs : List Code) → (tallies p cs).flag ≡ p.flag
+unfolding tallies tally
+tallies_flag p [] = refl
+tallies_flag p (c ∷ cs) = tallies_flag (tally p c) cs
+
+pub word_there : (size : ℕ) (ps : List Code) → 0 < packed_word (candidate size ps)
+unfolding packed_word candidate as_fields nothing_yet
+word_there size ps = omega (arith, tallies_flag (nothing_yet size) (resolve no_pair ps))
 
 -- ---- an only epilogue
 

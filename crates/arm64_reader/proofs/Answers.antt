@@ -95,6 +95,16 @@ module _ {x : Option Unwound} {u : Unwound} {n m k : ℕ} (es cs : List ℕ) (e 
   pub no_room : {r : code.Result Arm64Reading Question} → roomy es cs k (n + m) ≡ false → r ≡ Err OtherRoom → Answered (found x es cs) r es es cs cs
   no_room f q = refuses (by_room ∙ when_false (roomy es cs k (n + m)) (good u) (bad 54) f) q
 
+  pub few_epilogues : {r : code.Result Arm64Reading Question} → length es / 3 < k → r ≡ Err OtherRoom
+      → Answered (found x es cs) r es es cs cs
+  unfolding roomy
+  few_epilogues h q = no_room (grind arith) q
+
+  pub few_codes : {r : code.Result Arm64Reading Question} → length cs / 3 < n + m → r ≡ Err OtherRoom
+      → Answered (found x es cs) r es es cs cs
+  unfolding roomy
+  few_codes h q = no_room (grind arith) q
+
   pub stored : {r : code.Result Arm64Reading Question} {es' cs' : List ℕ} → roomy es cs k (n + m) ≡ true → r ≡ Ok (reading_with u.size n k m) → Stored u es es' cs cs' n → Answered (found x es cs) r es es' cs cs'
   stored t a w = stored_answer (by_room ∙ when_true (roomy es cs k (n + m)) (good u) (bad 54) t) d a w
 

@@ -22,14 +22,20 @@ pub fn put_run(out: &mut [u8], at: usize, size: usize, run: &Codes) -> usize
     leb::byte(out, at + size, 0xe4)
 }
 
-// Whether a run is the first part of another, which is as long or longer.
+// Whether a run is the first part of another, which is as long or longer. The pair before is the same in both
+// while their codes are, so that of one run serves.
 fn leads_long(run: &Codes, other: &Codes) -> bool
     requires { run.now.run.count ≤ other.now.run.count }
     ensures { result ≡ leads (written_in run.now) (written_in other.now) }
 {
-    run.steps()
-        .zip(other.steps())
-        .all(|(s, t)| s.written == t.written)
+    let mut j = 0;
+    for s in run.steps() {
+        if s.written != arm64_simple::simple(s.before, other.saved_at(j)) {
+            return false;
+        }
+        j += 1;
+    }
+    true
 }
 
 pub fn leads(run: &Codes, other: &Codes) -> bool

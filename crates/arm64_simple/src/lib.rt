@@ -259,6 +259,8 @@ impl Iterator for Steps<'_> {
 
     ghost remaining = { item_count steps_left };
 
+    // In each loop itself: a call would store a Step and read it back for each code.
+    #[inline(always)]
     fn next(&mut self) -> Option<Step> {
         if self.next == self.codes.run.count {
             return None;

@@ -68,12 +68,18 @@ unfolding labelled
 labelled_more none a b h = omega arith
 labelled_more (some r) a b h = h
 
+pub labelled_low : (o : Option Relaxed) (n : ℕ) → labelled o n ≤ n
+unfolding labelled
+labelled_low none n = omega arith
+labelled_low (some r) n = omega arith
+
 rows_few : (w place : ℕ) (xs : List RowAt) (o : Option Relaxed) → length (row_relocs w place xs o) ≤ 2 * labelled o (length xs)
 unfolding row_relocs labelled
 rows_few w place xs none = omega arith
 rows_few w place xs (some r) = steps_most w place 0 r.pairs xs
 
-record_few : (debug : Bool) (m : Machine) (at cie table : ℕ) (f : Function) → length (record_relocs debug m at cie table f) ≤ 4 + 2 * labelled f.relaxed (length f.rows)
+pub record_few : (debug : Bool) (m : Machine) (at cie table : ℕ) (f : Function)
+    → length (record_relocs debug m at cie table f) ≤ 4 + 2 * labelled f.relaxed (length f.rows)
 unfolding record_relocs pick
 record_few true m at cie table f =
     let ops : ℕ = at + 4 + length (record_fields true m.word (at + 4 - cie) f) in

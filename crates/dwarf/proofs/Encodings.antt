@@ -2,15 +2,16 @@
 use mathlib.Core.Path.{◌≡◌, refl, sym, ap, ◌∙◌}
 use mathlib.Core.Logic.{◌≢◌}
 use lib.Dec.{eqb}
-use Prim.Native.Nat.{ℕ, zero, suc}
+use Prim.Native.Nat.{ℕ, zero, suc, ◌<◌}
 use native.Mathlib.Omega.{arith}
 use mathlib.Core.Bool.{Bool, true, false, ◌&&◌}
 use Rattle.std.specs.Prelude as code
 use Rattle.std.specs.Prelude.{Some, None}
+use mathlib.Core.Option.{Option, none, some}
 use mathlib.Core.List.{[]}
 use Rattle.format.specs.Prelude.{pick, each}
 use Rattle.format.specs.Lists.{Landing, landing_at}
-use Rattle.format.specs.Headers.{pointer_size}
+use Rattle.format.specs.Headers.{size_of, pointer_size, size_or0}
 use Rattle.format.specs.Questions.{is_some, lsda_ok, named_ok, encodings_ok}
 use Rattle.format.proofs.Choice.{if-eq, if-ne}
 use Rattle.lists.specs.declared.Lsda.{Lsda}
@@ -75,3 +76,27 @@ module _ (word : ℕ) (e : Extent) {k : Kind} (a : k ≡ asked_kind e) where
 
       pub both : (l : Lsda) → p.lsda ≡ Some l → is_some (pointer_size false word l.encoding) ≡ ok word e
       both l n = rw (y, n) at (ok_is q)
+
+-- ---- a size is never 0
+
+abbrev NeverZero : Option ℕ → Type 0
+NeverZero o = size_or0 o ≡ 0 → o ≡ none
+
+never_pick : (b : Bool) {x y : Option ℕ} → NeverZero x → NeverZero y → NeverZero (pick b x y)
+unfolding pick
+never_pick true h k = h
+never_pick false h k = k
+
+never_some : (n : ℕ) → 0 < n → NeverZero (some n)
+unfolding size_or0
+never_some n h e = absurd (omega arith)
+
+-- where there is a word, an encoding whose size is 0 is not accepted
+pub size_refuses : (indirect : Bool) (word e : ℕ) → 0 < word → size_or0 (pointer_size indirect word e) ≡ 0
+    → pointer_size indirect word e ≡ none
+unfolding pointer_size size_of
+size_refuses indirect word e h =
+    never_pick _
+    (never_pick _ (never_some word h)
+    (never_pick _ (never_some 4 (omega arith)) (never_pick _ (never_some 8 (omega arith)) (λ z. refl))))
+    (λ z. refl)

@@ -6,6 +6,9 @@ use native.Mathlib.Numerals.{add-one}
 use mathlib.Core.Bool.{Bool}
 use mathlib.Core.List.{List}
 use lib.Dec.{eqb}
+use mir.Facts.{eqb_yes, eqb_no}
+use Rattle.format.specs.Prelude.{pick}
+use Rattle.format.proofs.Choice.{pick_yes, pick_no, tested}
 use Rattle.format.specs.declared.Machine.{Machine}
 use Rattle.format.specs.Writer.{is_debug, align_for, joined}
 use Rattle.format.specs.Lists.{numbers_of}
@@ -23,6 +26,7 @@ use Rattle.dwarf.specs.Parts.{align_in, bytes_in, relocs_in, sites_in, parts_to}
 use Rattle.dwarf.specs.Pieces.{part_in}
 use Rattle.dwarf.specs.Tables.{nothing, totals_in, grown_by, behind_header, Small, SizeReady}
 use Rattle.dwarf.specs.Writable.{Cleared, Next}
+use Rattle.dwarf.proofs.Owners.{own_looked, found_looked}
 use Rattle.dwarf.proofs.Totals.{headed_size, headed_next, found_next}
 
 -- ---- a function's rows
@@ -76,6 +80,14 @@ module _ {x : Inputs} {k n : ℕ} {t : Table} (c : Next x k n t) where
 
     pub other_next : owner x k < k → after t ≡ totals_in (parts_to x (k + 1))
     other_next o = rw (d, align_is a, q) (found_next x k t c.behind o)
+
+    -- the one or the other, by whether its owner is the function itself
+    pub chosen_next : {i : ℕ} → i ≡ owner x k
+        → after (pick (eqb i k) (behind_header debug x.machine align e t x.rows) t) ≡ totals_in (parts_to x (k + 1))
+    chosen_next {i} h =
+        tested (eqb i k)
+        (λ y. rw (pick_yes (eqb i k) (behind_header debug x.machine align e t x.rows) t y) (own_next (own_looked x h (eqb_yes y))))
+        (λ y. rw (pick_no (eqb i k) (behind_header debug x.machine align e t x.rows) t y) (other_next (found_looked x h (eqb_no y))))
 
 -- ---- all of them
 

@@ -1,21 +1,21 @@
 -- The sizing pass: what stands behind each function, whatever the place of an earlier header is.
 use mathlib.Core.Path.{◌≡◌, refl, sym, ap, ◌∙◌}
-use Prim.Native.Nat.{ℕ, suc, ◌+◌, ◌*◌, ◌^◌, ◌<◌}
+use Prim.Native.Nat.{ℕ, suc, ◌+◌, ◌*◌, ◌^◌, ◌≤◌, ◌<◌}
 use native.Mathlib.Omega.{arith}
 use native.Mathlib.Numerals.{add-one}
 use mathlib.Core.Bool.{Bool}
 use mathlib.Core.List.{List, [], ◌++◌}
 use lib.ListN.{length, get_or, length-append}
 use Rattle.format.specs.declared.Machine.{Machine}
-use Rattle.format.specs.Lists.{numbers_of}
+use Rattle.format.specs.Lists.{row_at, numbers_of}
 use Rattle.format.specs.Records.{record_bytes, record_relocs}
 use Rattle.format.specs.CallSites.{site_pad, site_added}
 use Rattle.format.specs.Writer.{Part, is_debug}
 use Rattle.lists.specs.declared.Extent.{Extent}
 use Rattle.lists.specs.Extents.{meant}
-use Rattle.header_keys.specs.Functions.{body_of}
+use Rattle.header_keys.specs.Functions.{body_of, Sound}
 use Rattle.owners.specs.Owners.{owner}
-use Rattle.format.proofs.ListLaws.{numbers_length, numbers_append}
+use Rattle.format.proofs.ListLaws.{each-length, numbers_length, numbers_append}
 use Rattle.records.proofs.RecordLaws.{record_length}
 use Rattle.records.proofs.RelocLaws.{relocs_count}
 use Rattle.dwarf.specs.declared.Table.{Table}
@@ -25,6 +25,7 @@ use Rattle.dwarf.specs.Pieces.{part_in, header_in, header_relocs_in, headed_in}
 use Rattle.headers.specs.Kinds.{header_reloc_count}
 use Rattle.headers.proofs.Personalities.{header_relocs_count}
 use Rattle.dwarf.specs.Tables.{totals_in, grown_by, behind_header, SizeReady}
+use Rattle.dwarf.proofs.Bounds.{record_few, labelled_low}
 use Rattle.dwarf.proofs.Fronts.{bytes_next, relocs_next, sites_next}
 use Rattle.dwarf.proofs.Pieces.{own_part, found_part}
 
@@ -109,6 +110,19 @@ module _ (x : Inputs) (k : ℕ) (t : Table) (h : t ≡ totals_in (parts_to x k))
       (same_size d x.machine (align_in x k) _ _ (extent_in x k) x.rows x.landings x.pairs _ (get_or (places_in (parts_to x k)) (owner x k) 0) ∙ rw (sym (found_part x k o)) on)
 
 -- ---- one function's sizes
+
+-- its relocations: few
+pub relocs_few : (debug : Bool) (m : Machine) (e : Extent) (rows pairs : List ℕ) {n : ℕ}
+    → n ≡ length (record_relocs debug m 0 0 0 (meant e rows [] pairs)) → Sound m e rows → n ≤ 2097156
+unfolding meant
+relocs_few debug m e rows pairs q s =
+    omega (
+      arith,
+      s.few,
+      record_few debug m 0 0 0 (meant e rows [] pairs),
+      labelled_low (meant e rows [] pairs).relaxed (length (meant e rows [] pairs).rows),
+      each-length (row_at rows) e.rows_at e.rows,
+    )
 
 module _ {debug : Bool} {m : Machine} {align : ℕ} {e : Extent} {t : Table} {rows landings pairs : List ℕ}
     (r : SizeReady debug m align e t rows landings pairs) where

@@ -3,9 +3,12 @@ use mathlib.Core.Path.{◌≡◌, refl, sym, ap}
 use Prim.Native.Nat.{ℕ, ◌+◌, ◌≤◌, ◌<◌}
 use native.Mathlib.Omega.{arith}
 use native.Mathlib.Numerals.{add-one}
-use mathlib.Core.Bool.{Bool}
+use mathlib.Core.Bool.{Bool, true, false, not}
 use mathlib.Core.List.{List}
-use lib.Dec.{eqb}
+use lib.Dec.{T, eqb}
+use mir.Facts.{eqb_yes, eqb_no}
+use Rattle.format.specs.Prelude.{pick}
+use Rattle.format.proofs.Choice.{pick_yes, pick_no, tested, is_true, is_false}
 use lib.ListN.{length, get_or, set, length-append}
 use Rattle.format.specs.Lists.{Relocation, numbers_of}
 use Rattle.format.specs.Writer.{Part, is_debug, align_for}
@@ -19,6 +22,7 @@ use Rattle.dwarf.specs.Parts.{bytes_in, relocs_in, sites_in, part_behind, parts_
 use Rattle.dwarf.specs.Pieces.{part_in, header_in, header_relocs_in, headed_in}
 use Rattle.dwarf.specs.Tables.{totals_in, grown_by, behind_header, Small, FrontReady, FrontStored, PieceReady, nothing, Stored, Added, Written, Holds}
 use Rattle.dwarf.specs.Writable.{Cleared, PartReady}
+use Rattle.dwarf.proofs.Owners.{own_looked, found_looked}
 use Rattle.dwarf.proofs.Pieces.{own_part, found_part}
 use Rattle.dwarf.proofs.OwnHeaders.{headed_stored}
 use Rattle.dwarf.proofs.Fronts.{bytes_next, relocs_next, sites_next}
@@ -158,6 +162,35 @@ module _ {x : Inputs} {k n : ℕ} {t : Table} {places bytes relocs sites : List 
             → Added x k t v places (set places k t.bytes) bytes bytes' relocs relocs' sites sites'
         unfolding headed_in
         own_added s = added headed_is (headed_stored x.rows x.landings x.pairs f s)
+
+    -- with the one or the other, by whether its owner is the function itself
+    module _ {i : ℕ} (h : i ≡ owner x k) {u : Table} {bytes₁ relocs₁ : List ℕ} (f : eqb i k ≡ true → FrontStored debug x.machine align e t u x.rows bytes bytes₁ relocs relocs₁)
+        (l : eqb i k ≡ false → u ≡ t) (b : eqb i k ≡ false → bytes₁ ≡ bytes) (v : eqb i k ≡ false → relocs₁ ≡ relocs) where
+      abbrev place : ℕ
+      place = pick (eqb i k) t.bytes (get_or places i 0)
+
+      own_place : T (eqb i k) → place ≡ t.bytes
+      own_place y = pick_yes (eqb i k) t.bytes (get_or places i 0) y
+
+      other_place : T (not (eqb i k)) → place ≡ get_or places i 0
+      other_place y = pick_no (eqb i k) t.bytes (get_or places i 0) y
+
+      pub chosen_ready : PieceReady debug x.machine align place e u x.rows x.landings x.pairs bytes₁ relocs₁ sites
+      chosen_ready =
+          tested (eqb i k)
+          (λ y. rw (own_place y) (own_ready (own_looked x h (eqb_yes y)) (f (is_true (eqb i k) y))))
+          (λ y.
+          let n = is_false (eqb i k) y in
+          rw (other_place y, l n, b n, v n, h) (found_ready (found_looked x h (eqb_no y))))
+
+      pub chosen_added : {w : Table} {bytes' relocs' sites' : List ℕ} → Stored (piece place u) u w bytes₁ bytes' relocs₁ relocs' sites sites'
+          → Added x k t w places (set places k place) bytes bytes' relocs relocs' sites sites'
+      chosen_added s =
+          tested (eqb i k)
+          (λ y. rw (own_place y) (own_added (own_looked x h (eqb_yes y)) (f (is_true (eqb i k) y)) (rw (own_place y) at s)))
+          (λ y.
+          let n = is_false (eqb i k) y in
+          rw (other_place y, h) (found_added (found_looked x h (eqb_no y)) (rw (other_place y, l n, b n, v n, h) at s)))
 
 -- ---- all of them
 

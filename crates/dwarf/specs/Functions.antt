@@ -1,5 +1,5 @@
 -- A function as a section writes it: its bytes and relocations behind a table, and whether they fit.
-use Rattle.std.specs.Prelude.{◌≡◌, ℕ, Bool}
+use Rattle.std.specs.Prelude.{◌≡◌, ℕ, Bool, true, false}
 use Rattle.format.specs.Writer.{Part, is_debug, align_for}
 use Rattle.lists.specs.declared.Lists.{Lists}
 use Rattle.header_keys.specs.declared.written.Function.{Function}
@@ -37,6 +37,13 @@ FrontFits f t to = FrontReady f.debug f.machine.now f.align f.extent t f.rows.no
 abbrev pub FrontWritten : Function → (t u : Table) → (old new : Output) → Type 0
 FrontWritten f t u old new =
     FrontStored f.debug f.machine.now f.align f.extent t u f.rows.now old.bytes.now new.bytes.now old.relocations.now new.relocations.now
+
+-- its own header is written behind t, up to u, where it has one; without one nothing is
+pub record HeadWritten (own : Bool) (f : Function) (t u : Table) (old new : Output) : Type 0 where
+  pub written : own ≡ true → FrontWritten f t u old new
+  pub behind : own ≡ false → u ≡ t
+  pub bytes_kept : own ≡ false → new.bytes.now ≡ old.bytes.now
+  pub relocations_kept : own ≡ false → new.relocations.now ≡ old.relocations.now
 
 -- and its part
 abbrev pub PieceFits : (cie : ℕ) → Function → Lists → Table → Output → Type 0

@@ -2,7 +2,7 @@
 #![tactic(auto)]
 
 ghost use Rattle.std.specs.Prelude.{◌≡◌, ℕ, ◌+◌, ◌*◌, ◌^◌, ◌≤◌, ◌<◌, true, not, [], T, ltb, eqb, length, get_or};
-ghost use Rattle.format.specs.Prelude.{all, each};
+ghost use Rattle.format.specs.Prelude.{all, each, pick};
 ghost use Rattle.format.specs.Lists.{field, function_stride, pair_stride, sum_of, most_functions, most_records, pair_at, row_at};
 ghost use Rattle.format.specs.Questions.{size_bytes, encodings_ok, steps_ok, pairs_ok, dwarf_asks, per_function, fitting, dwarf_given, given_of, room_in};
 ghost use Rattle.format.specs.Writer.{is_debug, align_for};
@@ -29,7 +29,7 @@ ghost use Rattle.owners.specs.Lent.{LongFor, EmptyFor};
 ghost use Rattle.dwarf.specs.Surveys.{rows_size, FunctionSurveyed, AllSurveyed};
 ghost use Rattle.dwarf.specs.Lent.{HasRoom, ReadyFor, AddsTo, FillsTo};
 ghost use Rattle.records.specs.Written as record_parts;
-ghost use Rattle.dwarf.specs.Functions.{WrittenAs, front_end, part_for, CanSize, FrontFits, FrontWritten, PieceFits, PieceWritten};
+ghost use Rattle.dwarf.specs.Functions.{WrittenAs, front_end, part_for, CanSize, FrontFits, FrontWritten, HeadWritten, PieceFits, PieceWritten};
 
 use format::{Counts, Question, Refusal, Section};
 use header_keys::written::{Function, Run};
@@ -307,6 +307,18 @@ fn front_sized(f: &Function, t: Table) -> Table
     }
 }
 
+// The same where the header is its own; t where it is another function's.
+#[tactic(auto, unfolding(format::specs::Prelude::pick))]
+fn headed_sized(own: bool, f: &Function, t: Table) -> Table
+    requires { own ≡ true → Small (front_end f.now t) }
+    ensures { result ≡ pick own (front_end f.now t) t }
+{
+    if own {
+        return front_sized(f, t);
+    }
+    t
+}
+
 // What stands behind a function that is behind t and whose rows have `size` bytes. Its header's place does not matter.
 fn sized(lists: &Lists, size: usize, f: &Function, t: Table) -> Table
     requires { CanSize f.now lists.now t × (size ≡ length (record_parts.rows_of f.now)) }
@@ -326,11 +338,8 @@ fn size_next(x: &Input, o: usize, k: usize, n: usize, size: usize, t: Table) -> 
     ensures { result ≡ totals_in (parts_to (inputs_of x.now) (k + 1)) }
 {
     let f = written(x, k, k + 1 == n);
-    if o == k {
-        let u = front_sized(&f, t);
-        return sized(&x.lists, size, &f, u);
-    }
-    sized(&x.lists, size, &f, t)
+    let u = headed_sized(o == k, &f, t);
+    sized(&x.lists, size, &f, u)
 }
 
 // The bytes of function k's rows, with the steps between them.
@@ -452,6 +461,32 @@ fn front(f: &Function, t: Table, to: &mut Output) -> Table
     }
 }
 
+// The same where the header is its own; where it is another function's nothing is written.
+fn headed(own: bool, f: &Function, t: Table, to: &mut Output) -> Table
+    requires { own ≡ true → FrontFits f.now t to.old }
+    ensures stored { HeadWritten own f.now t result to.old to.new }
+    ensures sites_kept { to.new.sites.now ≡ to.old.sites.now }
+    ensures places_kept { to.new.places.now ≡ to.old.places.now }
+    ensures same { SameLists to.old to.new }
+{
+    if own {
+        return front(f, t, to);
+    }
+    t
+}
+
+// The place of function k's header behind `at` bytes: that of its owner o, which stands among the places.
+#[tactic(auto, unfolding(format::specs::Prelude::pick))]
+fn header_place(o: usize, k: usize, at: usize, to: &Output) -> usize
+    requires { (o ≡ k → ⊥) → o < length to.now.places.now }
+    ensures { result ≡ pick (eqb o k) at (get_or to.now.places.now o 0) }
+{
+    if o == k {
+        return at;
+    }
+    to.places[o] as usize
+}
+
 // A function's record and its call sites behind t, with its header at `cie`.
 fn piece(lists: &Lists, cie: usize, f: &Function, t: Table, to: &mut Output) -> Table
     requires { PieceFits cie f.now lists.now t to.old }
@@ -507,14 +542,10 @@ impl Entries<'_> {
     {
         let o = usize::from(self.owners[k]);
         let f = written(self.input, k, k + 1 == n);
-        if o == k {
-            to.places[k] = t.bytes as u64;
-            let u = front(&f, t, to);
-            return piece(&self.input.lists, t.bytes, &f, u, to);
-        }
-        let cie = to.places[o];
-        to.places[k] = cie;
-        piece(&self.input.lists, cie as usize, &f, t, to)
+        let cie = header_place(o, k, t.bytes, to);
+        to.places[k] = cie as u64;
+        let u = headed(o == k, &f, t, to);
+        piece(&self.input.lists, cie, &f, u, to)
     }
 
     // All of them.

@@ -20,7 +20,7 @@ use Rattle.reader.proofs.Both.{operations_are, later, none_left}
 use Rattle.std.specs.Prelude.{Some, None}
 use Rattle.std.specs.Prelude as std
 use Rattle.reader.specs.States.{run_of}
-use Rattle.reader.specs.declared.run.State as code
+use Rattle.reader.specs.declared.state.State as code
 use Rattle.listing.specs.Lines.{Lines, last, ended, highest, lines_f, record_lines, lines_of, line_numbers, Lists}
 use Rattle.listing.proofs.StoredLines.{LinesStored, stored_none, stored_since, stored_joined, stored_last, stored_ended}
 use Rattle.listing.proofs.Doing.{Inside}

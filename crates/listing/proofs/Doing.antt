@@ -24,7 +24,7 @@ use Rattle.operations.proofs.OperationLaws.{takes_operation, operation_ahead, op
 use Rattle.format.proofs.Wrote.{Wrote}
 use Rattle.reader.specs.OneRegister as one
 use Rattle.reader.specs.States.{run_of}
-use Rattle.reader.specs.declared.run.State as code
+use Rattle.reader.specs.declared.state.State as code
 use Rattle.std.specs.Option.{is_some}
 use Rattle.reader.proofs.Operations.{none_where}
 use Rattle.reader.proofs.Seen.{SeenAs, answered, seen_row}

@@ -1,28 +1,15 @@
 -- Keys by a function's number, and the first function that has the key of another.
-use Rattle.std.specs.Prelude.{◌≡◌, ℕ, zero, suc, ◌<◌, Bool, List, get_or, MatchOption, Some, None}
+use Rattle.std.specs.Prelude.{◌≡◌, ℕ, zero, suc, ◌<◌, Bool, List, get_or, MatchOption}
 use Rattle.std.specs.Prelude as code
-use Rattle.std.proofs.Math.Option.{Option, none, some}
 use Rattle.format.specs.Prelude.{pick}
 use Rattle.format.specs.declared.Machine.{Machine}
 use Rattle.format.specs.declared.Row.{Row}
 use Rattle.format.specs.declared.Row.TheVariants.{RememberState}
 use Rattle.format.specs.Rows.{same_row}
-use Rattle.format.specs.Headers.{Kind, plain, personal, named, Key, leading, same_key}
+use Rattle.format.specs.Headers.{Key, leading, same_key}
 use Rattle.lists.specs.declared.Extent.{Extent}
 use Rattle.header_keys.specs.Functions.{body_of, key_in}
 use Rattle.header_keys.specs.Inputs.{Inputs, extent_in}
-use Rattle.owners.specs.declared.KindKey.{KindKey}
-use Rattle.owners.specs.declared.KindKey.TheVariants as variants
-
--- the kind of header that the code's key of a kind means
-unfoldable pub encoding_meant : code.Option ℕ → Option ℕ
-encoding_meant (Some e) = some e
-encoding_meant None = none
-
-unfoldable pub key_meant : KindKey → Kind
-key_meant variants.Plain = plain
-key_meant variants.Personal = personal
-key_meant (variants.Named e s l) = named e s (encoding_meant l)
 
 -- the key of function j as the section takes it
 abbrev pub key_at : Inputs → ℕ → Key

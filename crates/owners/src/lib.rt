@@ -3,17 +3,17 @@
 
 ghost use Rattle.std.specs.Prelude.{◌≡◌, true, ◌&&◌, ◌+◌, ◌*◌, ◌^◌, ◌≤◌, ◌<◌, length, IfSome};
 ghost use Rattle.std.specs.Bool.{beq};
-ghost use Rattle.format.specs.Headers.{same_kind, same_key};
+ghost use Rattle.format.specs.Headers.{same_encoding, same_kind, same_key};
 ghost use Rattle.header_keys.specs.Functions.{key_in};
 ghost use Rattle.header_keys.specs.Inputs.{inputs_of, ListedTo, RowsIn};
-ghost use Rattle.header_keys.specs.Kinds.{kind_in};
-ghost use Rattle.owners.specs.Owners.{key_at, leading_of, same_at, owner, key_meant, EarlierOwner};
+ghost use Rattle.header_keys.specs.Kinds.{lsda_of, named_by, kind_in};
+ghost use Rattle.owners.specs.Owners.{key_at, leading_of, same_at, owner, EarlierOwner};
 ghost use Rattle.owners.specs.Chains.{row_number, mixed, kind_number, digest_of, slot_at, behind_in, Chained};
 ghost use Rattle.owners.specs.Lent.{SameChains, LongFor, EmptyFor, FoundIn, OwnedIn};
 
 use format::Row;
 use header_keys::{Input, Kind, kind_of};
-use lists::Extent;
+use lists::{Extent, Lsda, Personality};
 
 // The lists that the functions' owners are found in: the last owner of each slot, the one behind each owner, and the owners.
 // Kept: three lists. The first has an entry for each slot, the others one for each function, and these two are not read together: a chain is followed
@@ -27,48 +27,58 @@ pub struct Chains<'a> {
 
 // ---- kinds of header
 
-// What a function's kind of header is told from others by: a named personality by its encoding, its symbol and the LSDA's encoding, if
-// there is an LSDA.
-#[derive(Clone, Copy, PartialEq, Eq)]
-enum KindKey {
-    Plain,
-    Personal,
-    Named {
-        encoding: u64,
-        routine: u64,
-        lsda: Option<u64>,
-    },
-}
-
-// Kept: no `From`, which would be an impl with a ghost `from_gives` around these lines, for the calls in one function.
-#[tactic(auto, unfolding(header_keys::specs::Kinds::kind_meant, header_keys::specs::Kinds::lsda_of, crate::specs::Owners::key_meant, crate::specs::Owners::encoding_meant))]
-fn kind_key(e: &Extent) -> KindKey
-    ensures { key_meant result ≡ kind_in e.now }
+// Two functions' LSDAs have one encoding, or neither has one.
+#[tactic(auto, unfolding(header_keys::specs::Kinds::lsda_of, format::specs::Headers::same_encoding))]
+fn same_lsda(a: Option<Lsda>, b: Option<Lsda>) -> bool
+    ensures { result ≡ same_encoding (lsda_of a) (lsda_of b) }
 {
-    match kind_of(e) {
-        Kind::Plain => KindKey::Plain,
-        Kind::Personal => KindKey::Personal,
-        Kind::Named(p) => KindKey::Named {
-            encoding: p.encoding,
-            routine: p.routine,
-            lsda: p.lsda.map(|l| l.encoding),
-        },
+    match (a, b) {
+        (Some(l), Some(m)) => l.encoding == m.encoding,
+        (None, None) => true,
+        _ => false,
     }
 }
 
-// Two kinds of header are one.
-#[tactic(auto, unfolding(crate::specs::Owners::key_meant, crate::specs::Owners::encoding_meant, format::specs::Headers::same_kind, format::specs::Headers::same_encoding))]
-fn same_kind(a: KindKey, b: KindKey) -> bool
-    ensures { result ≡ same_kind (key_meant a) (key_meant b) }
+// Two named personalities make one kind: by their encodings, their symbols and the LSDA's encoding.
+#[tactic(auto, unfolding(format::specs::Headers::same_kind))]
+fn same_named(a: &Personality, b: &Personality) -> bool
+    ensures { result ≡ same_kind (named_by a.now) (named_by b.now) }
 {
-    a == b
+    if a.encoding != b.encoding {
+        return false;
+    }
+    if a.routine != b.routine {
+        return false;
+    }
+    same_lsda(a.lsda, b.lsda)
+}
+
+// Two functions ask for one kind of header.
+// Kept: no `==` of two keys that are made first. This is asked of each function of a chain, and is left at the first difference.
+#[tactic(auto, unfolding(header_keys::specs::Kinds::kind_meant, header_keys::specs::Kinds::asked_kind, header_keys::specs::Kinds::by_personality, format::specs::Headers::same_kind, format::specs::Prelude::pick))]
+fn same_kind(a: &Extent, b: &Extent) -> bool
+    ensures { result ≡ same_kind (kind_in a.now) (kind_in b.now) }
+{
+    if a.landings != 0 {
+        return b.landings != 0;
+    }
+    if b.landings != 0 {
+        return false;
+    }
+    match a.personality {
+        None => b.personality.is_none(),
+        Some(p) => match b.personality {
+            None => false,
+            Some(q) => same_named(&p, &q),
+        },
+    }
 }
 
 // Two functions ask for one kind of header and agree in the signal mark.
 fn same_kind_and_signal(a: &Extent, b: &Extent) -> bool
     ensures { result ≡ same_kind (kind_in a.now) (kind_in b.now) && beq a.now.signal b.now.signal }
 {
-    same_kind(kind_key(a), kind_key(b)) && a.signal == b.signal
+    same_kind(a, b) && a.signal == b.signal
 }
 
 // ---- leading rows

@@ -117,7 +117,7 @@ impl Placed<'_> {
             at: from + 1,
             ..version
         };
-        let Some((p, past)) = self.body.letters(string) else {
+        let Some((p, past)) = reader::fields::letters(body, string, self.body.layout.debug) else {
             return Err(Field::Letters);
         };
         self.header_factors(past, p)

@@ -71,7 +71,13 @@ impl Placed<'_> {
         requires { at.at ≤ length self.now.body.bytes.now }
         ensures { record_answer result ≡ record_numbers self.now.body.layout.debug pointer (self.now.base + length self.now.body.bytes.now) (record_rest self.now.body.layout.debug pointer f.header f.function f.length (drop at.at self.now.body.bytes.now)) }
     {
-        let Some(Record { operations, size }) = self.body.record_tail(at, pointer, f.length) else {
+        let Some(Record { operations, size }) = reader::fields::record_tail(
+            self.body.bytes,
+            at,
+            self.body.layout.debug,
+            pointer,
+            f.length,
+        ) else {
             return Err(Field::RecordData);
         };
         let start = operations.at;

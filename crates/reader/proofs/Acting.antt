@@ -1,12 +1,13 @@
 -- What a row does to the rules stored.
-use mathlib.Core.Path.{◌≡◌, refl, sym, ap, subst}
-use Prim.Native.Nat.{ℕ, suc, ◌<◌}
+use mathlib.Core.Path.{◌≡◌, refl, sym, ap, subst, ◌∙◌}
+use Prim.Native.Nat.{ℕ, suc, ◌+◌, ◌-◌, ◌≤◌, ◌<◌}
 use native.Mathlib.Omega.{arith}
-use mathlib.Core.List.{[], ◌∷◌, ◌++◌, reverse, reverse-append}
-use lib.ListN.{length, length-reverse}
+use native.Mathlib.Numerals.{add-one}
+use mathlib.Core.List.{List, ◌∷◌, reverse, reverse-append}
+use lib.ListN.{length, get_or, set, take, length-take, length-reverse}
+use lib.Seq.{take-suc, take-suc-set}
 use lib.IntN.{ℤ}
 use Rattle.std.specs.Prelude.{Ok, Err, Some, None}
-use Rattle.arrayvec.specs.ArrayVec.{ArrayVec}
 use mathlib.Core.Bool.{true, false}
 use lib.Dec.{T}
 use Rattle.std.specs.Prelude as code
@@ -15,14 +16,14 @@ use Rattle.format.specs.declared.Operation.{Operation}
 use Rattle.format.specs.declared.Operation.TheVariants.{Nop, Step, Does}
 use Rattle.format.specs.declared.Row.{Row}
 use Rattle.format.specs.declared.Rule.{Rule}
+use Rattle.format.specs.declared.Rule.TheVariants.{Unstated}
 use Rattle.format.specs.Prelude.{Result, good, bad, onward}
 use Rattle.format.specs.declared.CfaRule.{CfaRule}
 use Rattle.format.specs.declared.CfaRule.TheVariants.{Unset, Register}
 use Rattle.format.specs.declared.Rules.{Rules}
 use Rattle.format.proofs.Choice.{if-le, if-gt}
-use Rattle.format.proofs.ListLaws.{none_held}
 use Rattle.reader.specs.OneRegister.{Run, set_cfa, register_rule, change_offset, change_register, remember, recall, act, stepped, perform}
-use Rattle.reader.specs.declared.run.State.{State}
+use Rattle.reader.specs.declared.state.State.{State}
 use Rattle.reader.specs.States.{run_of}
 
 -- a CFA rule that has no register, or no offset, to be kept; and one that has both
@@ -40,25 +41,55 @@ module _ (z : ℤ) (reg : ℕ) (s : Run) where
       let p : ◌≡◌ {A = ℕ × ℤ} (r', x') (r, x) = cc in
       (ap (λ (u : ℕ × ℤ). good (set_cfa (Register u.0 z) s)) p, ap (λ (u : ℕ × ℤ). good (set_cfa (Register reg u.1) s)) p)
 
+-- ---- rules stored, the last first
+
+abbrev stored_of : List Rules → ℕ → List Rules
+stored_of ks n = reverse (take n ks)
+
+-- what stands in a place where nothing is stored
+abbrev nothing : Rules
+nothing = record { cfa = Unset; rule = Unstated; signing = false }
+
+stored_length : (ks : List Rules) (n : ℕ) → n ≤ length ks → length (stored_of ks n) ≡ n
+stored_length ks n h = simp (length-reverse, length-take) (omega arith)
+
+stored_more : (ks : List Rules) (k : Rules) (n : ℕ) → n < length ks
+    → stored_of (set ks n k) (suc n) ≡ k ∷ stored_of ks n
+stored_more ks k n h = rw (take-suc-set ks n k h, reverse-append)
+
+stored_last : (ks : List Rules) (n : ℕ) → n < length ks
+    → stored_of ks (suc n) ≡ get_or ks n nothing ∷ stored_of ks n
+stored_last ks n h = rw (take-suc ks n nothing h, reverse-append)
+
 module _ (s : State) where
-  pub full : length s.stored.items ≡ 16 → remember (run_of s) ≡ bad 68
+  stored_count : length (stored_of s.stored s.depth) ≡ s.depth
+  stored_count = stored_length s.stored s.depth (omega (arith, s.deep, s.long))
+
+  pub full : 16 ≤ s.depth → remember (run_of s) ≡ bad 68
   unfolding remember run_of
-  full l = if-gt (suc (length (reverse s.stored.items))) 16 _ _ (omega (arith, l, length-reverse s.stored.items))
+  full l = if-gt (suc (length (stored_of s.stored s.depth))) 16 _ _ (omega (arith, l, stored_count))
 
-  pub remembered : {new : ArrayVec Rules} → length s.stored.items < 16 → new.items ≡ s.stored.items ++ (s.rules ∷ [])
-      → remember (run_of s) ≡ good (run_of (record { rules = s.rules; stored = new }))
-  unfolding remember run_of
-  remembered l e =
-      rw (e, reverse-append) (if-le (suc (length (reverse s.stored.items))) 16 _ _ (omega (arith, l, length-reverse s.stored.items)))
-
-  pub empty : (0 < length s.stored.items → ⊥) → recall (run_of s).stored (run_of s) ≡ bad 67
+  pub empty : s.depth ≡ 0 → recall (run_of s).stored (run_of s) ≡ bad 67
   unfolding recall run_of
-  empty n = rw (none_held s.stored.items n)
+  empty e = rw e
 
-  pub recalled : (k : Rules) (new : ArrayVec Rules) → s.stored.items ≡ new.items ++ (k ∷ [])
-      → recall (run_of s).stored (run_of s) ≡ good (run_of (record { rules = k; stored = new }))
-  unfolding recall run_of
-  recalled k new e = rw (e, reverse-append)
+  module _ (t : State) where
+    pub remembered : s.depth < 16 → t.rules ≡ s.rules → t.depth ≡ s.depth + 1
+        → t.stored ≡ set s.stored s.depth s.rules → remember (run_of s) ≡ good (run_of t)
+    unfolding remember run_of
+    remembered l r d m =
+        rw (r, d, m, add-one s.depth, stored_more s.stored s.rules s.depth (omega (arith, s.long)))
+        (if-le (suc (length (stored_of s.stored s.depth))) 16 _ _ (omega (arith, l, stored_count)))
+
+    pub recalled : 0 < s.depth → t.rules ≡ get_or s.stored (s.depth - 1) nothing → t.depth ≡ s.depth - 1
+        → t.stored ≡ s.stored → recall (run_of s).stored (run_of s) ≡ good (run_of t)
+    unfolding recall run_of
+    recalled l r d m =
+        let e : s.depth ≡ suc (s.depth - 1) = omega arith in
+        let f : stored_of s.stored s.depth
+        ≡ get_or s.stored (s.depth - 1) nothing ∷ stored_of s.stored (s.depth - 1) =
+        ap (stored_of s.stored) e ∙ stored_last s.stored (s.depth - 1) (omega (arith, s.deep, s.long)) in
+        rw (f, r, d, m)
 
 -- ---- an operation
 

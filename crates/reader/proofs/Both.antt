@@ -13,7 +13,7 @@ use Rattle.format.specs.Rules.{State, blank, rules_for, seen, answer}
 use Rattle.format.specs.Reader.{run}
 use Rattle.format.specs.declared.Rule.{Rule}
 use Rattle.std.specs.Prelude as std
-use Rattle.reader.specs.declared.run.State as code
+use Rattle.reader.specs.declared.state.State as code
 use Rattle.reader.specs.OneRegister as one
 use Rattle.reader.specs.Spans.{part}
 use Rattle.reader.specs.Finds.{spans_of, found, run_both, in_section}

@@ -25,7 +25,7 @@ use Rattle.format.proofs.Choice.{if-le, if-gt}
 use Rattle.format.proofs.Onward.{onward_ext}
 use Rattle.operations.proofs.PositionLaws.{Takes, nothing, taken}
 use Rattle.operations.proofs.OperationLaws.{takes_operation, operation_ahead, operation_rest, operation_none}
-use Rattle.reader.specs.declared.run.State as code
+use Rattle.reader.specs.declared.state.State as code
 use Rattle.std.specs.Prelude as std
 use Rattle.reader.specs.OneRegister as one
 use Rattle.reader.specs.States.{run_of}

@@ -69,24 +69,21 @@ fn marked(
     None
 }
 
-impl Body<'_> {
-    // The string at `at`, one of the source's.
-    pub fn letters(&self, at: Position) -> Option<(Augmentation, Position)>
-        requires { at.at ≤ length self.now.bytes.now }
-        ensures { ReadsAugmentation self.now.bytes.now at.shortest result (read_letters (spellings self.now.layout.debug) (drop at.at self.now.bytes.now)) }
-    {
-        let s = self.bytes;
-        if self.layout.debug {
-            return marked(s, at, b"\0", b"S\0", false, false);
-        }
-        if let Some(read) = marked(s, at, b"zR\0", b"zRS\0", false, false) {
-            return Some(read);
-        }
-        if let Some(read) = marked(s, at, b"zPR\0", b"zPRS\0", true, false) {
-            return Some(read);
-        }
-        marked(s, at, b"zPLR\0", b"zPLRS\0", true, true)
+// The string at `at`, one of the source's.
+pub fn letters(s: &[u8], at: Position, debug: bool) -> Option<(Augmentation, Position)>
+    requires { at.at ≤ length s.now }
+    ensures { ReadsAugmentation s.now at.shortest result (read_letters (spellings debug) (drop at.at s.now)) }
+{
+    if debug {
+        return marked(s, at, b"\0", b"S\0", false, false);
     }
+    if let Some(read) = marked(s, at, b"zR\0", b"zRS\0", false, false) {
+        return Some(read);
+    }
+    if let Some(read) = marked(s, at, b"zPR\0", b"zPRS\0", true, false) {
+        return Some(read);
+    }
+    marked(s, at, b"zPLR\0", b"zPLRS\0", true, true)
 }
 
 // ---- encodings
@@ -259,7 +256,7 @@ impl Body<'_> {
             at: from + 1,
             ..version
         };
-        let Some((p, past)) = self.letters(string) else {
+        let Some((p, past)) = letters(s, string, self.layout.debug) else {
             return Err(Question::Fields);
         };
         self.header_factors(past, p)
@@ -275,28 +272,26 @@ pub struct Record {
     pub size: u64,
 }
 
-impl Body<'_> {
-    // The augmentation of a record holds its pointer to call sites.
-    pub fn record_tail(&self, at: Position, pointer: u64, size: u64) -> Option<Record>
-        requires { at.at ≤ length self.now.bytes.now }
-        ensures { Records self.now.bytes.now (tail_mark self.now.layout.debug self.now.bytes.now at) result (record_tail self.now.layout.debug pointer size (drop at.at self.now.bytes.now)) }
-    {
-        if self.layout.debug {
-            return Some(Record {
-                operations: at,
-                size,
-            });
-        }
-        let (start, end) = counted(self.bytes, at)?;
-        let from = start.at;
-        if ((end - from) as u64) < pointer {
-            return None;
-        }
-        Some(Record {
-            operations: Position { at: end, ..start },
+// The augmentation of a record holds its pointer to call sites.
+pub fn record_tail(s: &[u8], at: Position, debug: bool, pointer: u64, size: u64) -> Option<Record>
+    requires { at.at ≤ length s.now }
+    ensures { Records s.now (tail_mark debug s.now at) result (record_tail debug pointer size (drop at.at s.now)) }
+{
+    if debug {
+        return Some(Record {
+            operations: at,
             size,
-        })
+        });
     }
+    let (start, end) = counted(s, at)?;
+    let from = start.at;
+    if ((end - from) as u64) < pointer {
+        return None;
+    }
+    Some(Record {
+        operations: Position { at: end, ..start },
+        size,
+    })
 }
 
 // The bytes of a function's place and of its length.
@@ -323,7 +318,7 @@ impl Body<'_> {
         let Some((size, tail)) = read_le(s, length, n) else {
             return Err(Question::Fields);
         };
-        let Some(record) = self.record_tail(tail, pointer, size) else {
+        let Some(record) = record_tail(s, tail, self.layout.debug, pointer, size) else {
             return Err(Question::Fields);
         };
         Ok(record)

@@ -21,6 +21,7 @@ pub mod records;
 pub mod run;
 pub mod section;
 pub mod shortest;
+pub mod state;
 
 // Question 11.
 pub fn layout_of(kind: u64, word: u64) -> Option<Layout>
@@ -65,7 +66,7 @@ pub fn locate(
     ensures { Locates section.now word result (locate_in section.now relocations.now kind word k) }
 {
     // Kept: `let .. else`, which document 01 names for the answers of headers and LEB numbers (docs/DECISIONS.md), on the other answers here and in
-    // location too: each is asked once, and the refusal is named beside it. In `run::remember` `map_err` was tried, and the check did not prove it alone.
+    // location too: each is asked once, and the refusal is named beside it.
     let Some(section) = section_of(section, relocations, kind, word) else {
         return Err(Question::Interface);
     };

@@ -9,7 +9,7 @@ ghost use Rattle.reader.specs.Spans.{part, entry_of, listed, Holds, Ahead, Spans
 ghost use Rattle.reader.specs.Finds.{Searching, spans_of, Locates, two_entries, Stand};
 
 use crate::entries::{self, Entries};
-use crate::section::{Body, Section, Span};
+use crate::section::{Body, Links, Section, Span};
 use format::Question;
 
 // ---- the header of a record
@@ -45,13 +45,13 @@ impl Span {
     }
 }
 
-impl<'a> Section<'a> {
+impl Links<'_> {
     // Where the header of a record starts, as its second field says or, in debug_frame, that field's relocation.
     pub fn header_place(&self, record: Span) -> Option<usize>
         requires { Holds self.now.bytes.now «record» }
-        ensures { result ≡ option_of (header_place self.now.layout.debug (relocations_of self.now.relocations.now) (entry_of self.now.bytes.now «record»)) }
+        ensures { result ≡ option_of (header_place self.now.debug (relocations_of self.now.relocations.now) (entry_of self.now.bytes.now «record»)) }
     {
-        if self.layout.debug {
+        if self.debug {
             return first_addend(self.relocations, (record.at + 4) as u64);
         }
         record.distance_back(self.bytes)
@@ -60,15 +60,15 @@ impl<'a> Section<'a> {
     // An entry is a header, starts at a place, and that place is earlier than `before`.
     pub fn starts(&self, entry: Span, place: usize, before: usize) -> bool
         requires { Holds self.now.bytes.now entry }
-        ensures { result ≡ eqb entry.at place && ltb place before && is_header self.now.layout.debug (entry_of self.now.bytes.now entry) }
+        ensures { result ≡ eqb entry.at place && ltb place before && is_header self.now.debug (entry_of self.now.bytes.now entry) }
     {
-        entry.at == place && place < before && entry.is_header(self.bytes, self.layout.debug)
+        entry.at == place && place < before && entry.is_header(self.bytes, self.debug)
     }
 
     // The header that starts at a place earlier than `before`, searched for from an entry in front of it.
     pub fn header_from(&self, from: usize, place: usize, before: usize) -> Option<Span>
         requires { Ahead self.now.bytes.now from × (from ≤ place) }
-        ensures { Spans self.now.bytes.now result (header_at self.now.layout.debug place before (listed (entries self.now.bytes.now))) }
+        ensures { Spans self.now.bytes.now result (header_at self.now.debug place before (listed (entries self.now.bytes.now))) }
     {
         Entries::starting(self.bytes, from).find(|entry| self.starts(*entry, place, before))
     }
@@ -76,7 +76,7 @@ impl<'a> Section<'a> {
     // Question 63: the header of a record.
     pub fn header_of(&self, record: Span) -> Option<Span>
         requires { Holds self.now.bytes.now «record» × T (is_some (entries self.now.bytes.now)) }
-        ensures { Spans self.now.bytes.now result (after (header_place self.now.layout.debug (relocations_of self.now.relocations.now) (entry_of self.now.bytes.now «record»)) λ place. header_at self.now.layout.debug place «record».at (listed (entries self.now.bytes.now))) }
+        ensures { Spans self.now.bytes.now result (after (header_place self.now.debug (relocations_of self.now.relocations.now) (entry_of self.now.bytes.now «record»)) λ place. header_at self.now.debug place «record».at (listed (entries self.now.bytes.now))) }
     {
         let place = self.header_place(record)?;
         self.header_from(0, place, record.at)
@@ -121,6 +121,17 @@ impl Located {
 }
 
 impl<'a> Section<'a> {
+    // What its records find their headers by.
+    pub fn links(&self) -> Links<'a>
+        ensures { (result.bytes.now ≡ self.now.bytes.now) × (result.relocations.now ≡ self.now.relocations.now) × (result.debug ≡ self.now.layout.debug) }
+    {
+        Links {
+            bytes: self.bytes,
+            relocations: self.relocations,
+            debug: self.layout.debug,
+        }
+    }
+
     // The bytes behind an entry's length.
     pub fn body(&self, e: Span) -> Body<'a>
         requires { Holds self.now.bytes.now e }
@@ -167,7 +178,7 @@ impl<'a> Section<'a> {
         let Some(record) = entries::record_span(self.bytes, self.layout.debug, k) else {
             return Err(Question::Record);
         };
-        let Some(header) = self.header_of(record) else {
+        let Some(header) = self.links().header_of(record) else {
             return Err(Question::Header);
         };
         Ok((header, record))

@@ -38,6 +38,7 @@ impl Iterator for Operations<'_> {
 
     ghost remaining = { λ s. at_most (length s.bytes.now - s.at.at) };
 
+    #[inline(always)]
     fn next(&mut self) -> Option<Option<(Operation, Position)>> {
         if self.bytes.len() <= self.at.at {
             return None;

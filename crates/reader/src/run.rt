@@ -8,19 +8,10 @@ ghost use Rattle.reader.specs.States.{run_of, Acts, Performs};
 
 use crate::location::Located;
 use crate::operation::Operations;
-use arrayvec::ArrayVec;
+pub use crate::state::State;
 use format::{CfaRule, Operation, Question, Row, Rule, Rules};
 
 // ---- the state
-
-// The rules that hold, and those stored, the last at the end.
-// Kept: the followed register and its rule after the header go beside it to `restore`, `act` and `perform`. They stay the same in a run over an entry's
-// operations: as fields of the state they would be in what each of the eight steps may change, and the contract of each would say that they do not.
-#[derive(Drop)]
-pub struct State {
-    pub rules: Rules,
-    pub stored: ArrayVec<Rules, 16>,
-}
 
 // The state in front of a header's operations.
 #[tactic(auto, unfolding(crate::specs::States::run_of, crate::specs::OneRegister::start))]
@@ -29,7 +20,8 @@ pub fn start() -> State
 {
     State {
         rules: Rules::default(),
-        stored: ArrayVec::new(),
+        depth: 0,
+        stored: [Rules::default(); 16],
     }
 }
 
@@ -75,10 +67,12 @@ fn restore(s: &mut State, q: u16, reg: u16, initial: Option<Rule>) -> Result<(),
 fn remember(s: &mut State) -> Result<(), Question>
     ensures { Acts result (run_of s.new) (remember (run_of s.old)) }
 {
-    let rules = s.rules;
-    let Ok(()) = s.stored.try_push(rules) else {
+    let depth = s.depth;
+    if 16 <= depth {
         return Err(Question::StatesRoom);
-    };
+    }
+    s.stored[depth] = s.rules;
+    s.depth = depth + 1;
     Ok(())
 }
 
@@ -86,8 +80,10 @@ fn remember(s: &mut State) -> Result<(), Question>
 fn recall(s: &mut State) -> Result<(), Question>
     ensures { Acts result (run_of s.new) (recall (run_of s.old).stored (run_of s.old)) }
 {
-    let rules = s.stored.pop().ok_or(Question::States)?;
+    let last = s.depth.checked_sub(1).ok_or(Question::States)?;
+    let rules = s.stored[last];
     s.rules = rules;
+    s.depth = last;
     Ok(())
 }
 
@@ -99,7 +95,9 @@ fn negate(s: &mut State)
     s.rules.signing = !s.rules.signing;
 }
 
-// A row, or the question that it is refused by; `initial` is the followed register's rule after the header.
+// A row, or the question that it is refused by; `initial` is the followed register's rule after the header. Out of line, so that
+// `perform` is small enough to stand in the loops of the readers.
+#[inline(never)]
 pub fn act(s: &mut State, q: u16, initial: Option<Rule>, row: Row) -> Result<(), Question>
     ensures { Acts result (run_of s.new) (act q initial row (run_of s.old)) }
 {
@@ -126,6 +124,7 @@ pub fn act(s: &mut State, q: u16, initial: Option<Rule>, row: Row) -> Result<(),
 }
 
 // An operation, or the question that it is refused by: a row is done, and a step is handed on. Question 66: no step in a header.
+#[inline(always)]
 pub fn perform(
     s: &mut State,
     q: u16,

@@ -20,6 +20,15 @@ pub struct Section<'a> {
     pub layout: Layout,
 }
 
+// A section as its records find their headers: its bytes, and the relocations, which only a debug_frame asks.
+// None of this depends on the word, so none is asked for.
+#[derive(Clone, Copy)]
+pub struct Links<'a> {
+    pub bytes: &'a [u8],
+    pub relocations: &'a [u64],
+    pub debug: bool,
+}
+
 // Where an entry of a section starts and ends, or an entry's operations.
 // Kept: that a section holds the entry is a clause (`Holds`) of 17 functions, in entries and location, in section_check and in reads, and no field. In a struct of an entry,
 // its section and that fact, six of them (`parse`, reads' `locate_entries` and `header_start`, section_check's `header_of`, `answers_at` and `passes`)

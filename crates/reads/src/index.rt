@@ -15,7 +15,7 @@ ghost use Rattle.reads.specs.Standing.{stored_as, Skipped, Headed, Stores};
 use format::Question;
 use reader::entries::Entries;
 use reader::records::Records;
-use reader::section::{Section, Span};
+use reader::section::{Links, Span};
 use section_check::marks::Stretches;
 
 // As many marks as a section has here: half of those of section_check, since a frame above some 32 KiB is compiled wrong (docs/DECISIONS.md, D86).
@@ -39,23 +39,23 @@ fn place_of(header: Option<usize>) -> u64
 }
 
 // How many records there are.
-fn count(section: &Section) -> usize
-    requires { T (is_some (entries section.now.bytes.now)) }
-    ensures { result ≡ length (records section.now.layout.debug (listed (entries section.now.bytes.now))) }
+fn count(links: &Links) -> usize
+    requires { T (is_some (entries links.now.bytes.now)) }
+    ensures { result ≡ length (records links.now.debug (listed (entries links.now.bytes.now))) }
 {
-    Records::new(section.bytes, section.layout.debug).count()
+    Records::new(links.bytes, links.debug).count()
 }
 
 // The relocations in front of the first whose place is at least `place`, from those on that are known to be. A writer's relocations go up, so one pass
 // over them serves all records; eh_frame's records do not ask them.
-fn skipped(section: &Section, place: u64, from: usize) -> usize
-    requires { Skipped section.now.relocations.now place from }
-    ensures { Skipped section.now.relocations.now place result }
+fn skipped(links: &Links, place: u64, from: usize) -> usize
+    requires { Skipped links.now.relocations.now place from }
+    ensures { Skipped links.now.relocations.now place result }
 {
-    if !section.layout.debug {
+    if !links.debug {
         return from;
     }
-    let relocs = section.relocations;
+    let relocs = links.relocations;
     let n = relocs.len() / relocs::RELOCATION_STRIDE;
     (from..n)
         .find(|i| place <= relocs[relocs::RELOCATION_STRIDE * *i])
@@ -65,29 +65,29 @@ fn skipped(section: &Section, place: u64, from: usize) -> usize
 // Where the header of a record starts, as its second field says or, in debug_frame, that field's relocation.
 // Kept: beside the reader's function of this name, which asks all relocations. Here those that were passed are not asked again: with the reader's, the
 // index of a debug_frame section is quadratic in its records.
-fn header_place(section: &Section, fde: Span, from: usize) -> Option<usize>
-    requires { Holds section.now.bytes.now fde × Searching section.now.relocations.now (fde.at + 4) from }
-    ensures { result ≡ option_of (header_place section.now.layout.debug (relocations_of section.now.relocations.now) (entry_of section.now.bytes.now fde)) }
+fn header_place(links: &Links, fde: Span, from: usize) -> Option<usize>
+    requires { Holds links.now.bytes.now fde × Searching links.now.relocations.now (fde.at + 4) from }
+    ensures { result ≡ option_of (header_place links.now.debug (relocations_of links.now.relocations.now) (entry_of links.now.bytes.now fde)) }
 {
-    if section.layout.debug {
-        return reader::location::addend_from(section.relocations, (fde.at + 4) as u64, from);
+    if links.debug {
+        return reader::location::addend_from(links.relocations, (fde.at + 4) as u64, from);
     }
-    section.header_place(fde)
+    links.header_place(fde)
 }
 
 // The place of a record's header. Records follow their header, or others of it, so the header that was passed or found last is looked at first; any
 // other is searched for from the mark of its stretch on.
 fn header_start(
-    section: &Section,
+    links: &Links,
     fde: Span,
     from: usize,
     last: Option<usize>,
     stretches: &Stretches<MARKS>,
 ) -> Option<usize>
-    requires { Holds section.now.bytes.now fde × T (is_some (entries section.now.bytes.now)) × Headed section.now.layout.debug (listed (entries section.now.bytes.now)) (stored_as last) × Searching section.now.relocations.now (fde.at + 4) from × Marks section.now.bytes.now stretches.now.marks }
-    ensures { (stored_as result ≡ place_or (header_of section.now.layout.debug (relocations_of section.now.relocations.now) (listed (entries section.now.bytes.now)) (entry_of section.now.bytes.now fde))) × Headed section.now.layout.debug (listed (entries section.now.bytes.now)) (stored_as result) }
+    requires { Holds links.now.bytes.now fde × T (is_some (entries links.now.bytes.now)) × Headed links.now.debug (listed (entries links.now.bytes.now)) (stored_as last) × Searching links.now.relocations.now (fde.at + 4) from × Marks links.now.bytes.now stretches.now.marks }
+    ensures { (stored_as result ≡ place_or (header_of links.now.debug (relocations_of links.now.relocations.now) (listed (entries links.now.bytes.now)) (entry_of links.now.bytes.now fde))) × Headed links.now.debug (listed (entries links.now.bytes.now)) (stored_as result) }
 {
-    let place = header_place(section, fde, from)?;
+    let place = header_place(links, fde, from)?;
     if fde.at <= place {
         return None;
     }
@@ -95,16 +95,16 @@ fn header_start(
         return last;
     }
     let mark = stretches.before(place);
-    let cie = section.header_from(mark, place, fde.at)?;
+    let cie = links.header_from(mark, place, fde.at)?;
     Some(cie.at)
 }
 
 // Stores the index in a list that has room for it.
-fn fill(section: &Section, places: &mut [u64])
-    requires { T (is_some (entries section.now.bytes.now)) × (length (index_of section.now.layout.debug (relocations_of section.now.relocations.now) (listed (entries section.now.bytes.now))) ≤ length places.old) }
-    ensures { places.new ≡ put places.old 0 (index_of section.now.layout.debug (relocations_of section.now.relocations.now) (listed (entries section.now.bytes.now))) }
+fn fill(links: &Links, places: &mut [u64])
+    requires { T (is_some (entries links.now.bytes.now)) × (length (index_of links.now.debug (relocations_of links.now.relocations.now) (listed (entries links.now.bytes.now))) ≤ length places.old) }
+    ensures { places.new ≡ put places.old 0 (index_of links.now.debug (relocations_of links.now.relocations.now) (listed (entries links.now.bytes.now))) }
 {
-    let s = section.bytes;
+    let s = links.bytes;
     let mut stretches = Stretches {
         marks: [0; MARKS],
         step: s.len() / MARKS + 1,
@@ -116,12 +116,12 @@ fn fill(section: &Section, places: &mut [u64])
     // and i by hand: a header among the entries moves it by none.
     'entries: for entry in Entries::new(s) {
         stretches.mark(entry.at);
-        if entry.is_header(s, section.layout.debug) {
+        if entry.is_header(s, links.debug) {
             last = Some(entry.at);
             continue 'entries;
         }
-        from = skipped(section, (entry.at + 4) as u64, from);
-        last = header_start(section, entry, from, last, &stretches);
+        from = skipped(links, (entry.at + 4) as u64, from);
+        last = header_start(links, entry, from, last, &stretches);
         places[i] = entry.at as u64;
         places[i + 1] = place_of(last);
         i += STRIDE;
@@ -129,16 +129,16 @@ fn fill(section: &Section, places: &mut [u64])
 }
 
 // Questions 61 and 54, and the index: how many records there are.
-pub fn index_in(section: &Section, places: &mut [u64]) -> Result<usize, Question>
-    ensures { Stores (index_in section.now.layout.debug (relocations_of section.now.relocations.now) (length places.old) section.now.bytes.now) result places.old places.new }
+pub fn index_in(links: &Links, places: &mut [u64]) -> Result<usize, Question>
+    ensures { Stores (index_in links.now.debug (relocations_of links.now.relocations.now) (length places.old) links.now.bytes.now) result places.old places.new }
 {
-    if !reader::entries::tiles(section.bytes) {
+    if !reader::entries::tiles(links.bytes) {
         return Err(Question::Tiling);
     }
-    let n = count(section);
+    let n = count(links);
     if places.len() / STRIDE < n {
         return Err(Question::OtherRoom);
     }
-    fill(section, places);
+    fill(links, places);
     Ok(n)
 }

@@ -245,7 +245,7 @@ pub extern "C" fn unwind_index(
     let Some(section) = reader::section_of(section, relocations, kind, word) else {
         return Indexed::from(Err(Question::Interface));
     };
-    Indexed::from(index::index_in(&section, places))
+    Indexed::from(index::index_in(&section.links(), places))
 }
 
 #[unsafe(no_mangle)]

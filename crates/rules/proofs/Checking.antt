@@ -16,7 +16,8 @@ use Rattle.lists.proofs.Ranges.{none_left, one_more}
 use Rattle.rules.specs.declared.Order.{Order}
 use Rattle.std.specs.Prelude.{Option, Some, None}
 use Rattle.std.specs.Bool.{then_some}
-use Rattle.rules.specs.Orders.{leaders_ok, follow, follow_some, follow_given, Follows, Gives, all_follow, Starts, Steps}
+use Rattle.rules.specs.Orders.{leaders_ok, follow, follow_some, follow_given, Follows, Starts, Steps}
+use Rattle.rules.specs.Whole.{Gives, all_follow}
 
 done : (b : Bool) → pick b true true && true ≡ true
 unfolding pick

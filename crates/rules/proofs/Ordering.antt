@@ -1,10 +1,12 @@
 -- One row of the row check: it may lead where it does, and it is in order.
-use mathlib.Core.Path.{◌≡◌, refl, sym, ◌∙◌}
-use Prim.Native.Nat.{suc, ◌<◌}
+use mathlib.Core.Path.{◌≡◌, refl, sym, ap, ◌∙◌}
+use Prim.Native.Nat.{ℕ, suc, ◌+◌, ◌-◌, ◌≤◌, ◌<◌}
 use native.Mathlib.Omega.{arith}
+use native.Mathlib.Numerals.{add-one}
 use mathlib.Core.Bool.{Bool, true, false, not, ◌&&◌, and-true, and-false, and_assoc}
-use mathlib.Core.List.{List, [], ◌∷◌, ◌++◌, reverse, reverse-append}
-use lib.ListN.{length, length-reverse}
+use mathlib.Core.List.{List, [], ◌∷◌, reverse, reverse-append}
+use lib.ListN.{length, get_or, set, take, length-take, length-reverse}
+use lib.Seq.{take-suc, take-suc-set}
 use lib.Dec.{eqb, ltb}
 use borrow.Author.Tests.{le-leb, lt-leb}
 use Rattle.format.specs.Prelude.{pick, all}
@@ -13,12 +15,27 @@ use Rattle.format.specs.declared.Row.TheVariants.{RememberState, RestoreState}
 use Rattle.format.specs.Rows.{RowAt, kind_of}
 use Rattle.format.specs.Headers.{leads, ahead}
 use Rattle.format.specs.RowCheck.{may_lead, in_order, rows_of}
-use Rattle.format.proofs.ListLaws.{none_held}
 use Rattle.rules.specs.declared.Order.{Order}
 use Rattle.std.specs.Prelude.{Some, None}
 use Rattle.std.specs.Bool.{then_some}
-use Rattle.arrayvec.specs.ArrayVec.{ArrayVec}
+use Rattle.std.proofs.Math.Bridge.{le_prop}
+use Rattle.std.proofs.Math.Nat.{ℕ_set}
 use Rattle.rules.specs.Orders.{leaders_ok, follow, follow_some, passing, Steps}
+
+-- ---- the open ones, the last first
+
+abbrev open_of : List Bool → ℕ → List Bool
+open_of ms n = reverse (take n ms)
+
+open_length : (ms : List Bool) (n : ℕ) → n ≤ length ms → length (open_of ms n) ≡ n
+open_length ms n h = simp (length-reverse, length-take) (omega arith)
+
+open_more : (ms : List Bool) (b : Bool) (n : ℕ) → n < length ms
+    → open_of (set ms n b) (suc n) ≡ b ∷ open_of ms n
+open_more ms b n h = rw (take-suc-set ms n b h, reverse-append)
+
+open_last : (ms : List Bool) (n : ℕ) → n < length ms → open_of ms (suc n) ≡ get_or ms n false ∷ open_of ms n
+open_last ms n h = rw (take-suc ms n false h, reverse-append)
 
 -- ---- leading
 
@@ -38,6 +55,11 @@ swap true b true d = refl
 swap true b false d = and-false b
 swap false b c d = refl
 
+given_where : (b : Bool) (s : Order) → then_some b s ≡ pick b (Some s) None
+unfolding pick
+given_where true s = refl
+given_where false s = refl
+
 follow_pick : (b : Bool) (s : Order) (xs : List RowAt) → b && follow s xs ≡ follow_some (pick b (Some s) None) xs
 unfolding pick
 follow_pick true s xs = refl
@@ -46,7 +68,9 @@ follow_pick false s xs = refl
 -- a row decides where the rest of the leaders and the rest of the order are known
 module _ (o : Order) (first : Bool) (r : Row) (s : Order) (may ok : Bool) where
   pub decided : s.leading ≡ still_leads first r → may ≡ pick (still_leads first r) (may_lead r) true && ok
-      → ((rs : List Row) → in_order o.framed (reverse o.marks.items) (r ∷ rs) ≡ ok && in_order s.framed (reverse s.marks.items) rs)
+      → ((rs : List Row)
+      → in_order o.framed (open_of o.marks o.depth) (r ∷ rs)
+      ≡ ok && in_order s.framed (open_of s.marks s.depth) rs)
       → Steps o first r (pick may (Some s) None)
   unfolding follow leaders_ok leads ahead rows_of
   decided l e n =
@@ -63,6 +87,20 @@ module _ (o : Order) (first : Bool) (r : Row) (s : Order) (may ok : Bool) where
 
 -- ---- rows that open and close nothing
 
+-- what follows, whatever proofs it holds
+module _ (ok : Bool) (o : Order) (first framed : Bool) where
+  abbrev after : o.depth ≤ 16 → length o.marks ≡ 16 → Order
+  after d l =
+      record { leading = first; framed = framed; depth = o.depth; marks = o.marks; deep = d; long = l }
+
+  pub passed_on : (d : o.depth ≤ 16) (l : length o.marks ≡ 16)
+      → then_some ok (after d l) ≡ passing ok o first framed
+  unfolding passing
+  passed_on d l =
+      given_where ok _
+      ∙ ap (λ d. pick ok (Some (after d l)) None) (le_prop d o.deep)
+      ∙ ap (λ l. pick ok (Some (after o.deep l)) None) (ℕ_set _ _ l o.long)
+
 free : (b ok : Bool) → ok ≡ pick b true true && ok
 unfolding pick
 free true ok = refl
@@ -76,14 +114,17 @@ barred false = refl
 module _ (o : Order) (first : Bool) (r : Row) (framed : Bool) (k : eqb (kind_of r) 6 ≡ false) where
   -- one that may lead
   pub passed : (ok : Bool) → may_lead r ≡ true
-      → ((rs : List Row) → in_order o.framed (reverse o.marks.items) (r ∷ rs) ≡ ok && in_order framed (reverse o.marks.items) rs)
+      → ((rs : List Row)
+      → in_order o.framed (open_of o.marks o.depth) (r ∷ rs)
+      ≡ ok && in_order framed (open_of o.marks o.depth) rs)
       → Steps o first r (passing ok o first framed)
   unfolding passing
   passed ok m n = decided o first r _ ok ok (rw (k, and-true)) (rw m (free (still_leads first r) ok)) n
 
   -- one that may not
   pub kept_back : may_lead r ≡ false
-      → ((rs : List Row) → in_order o.framed (reverse o.marks.items) (r ∷ rs) ≡ in_order framed (reverse o.marks.items) rs)
+      → ((rs : List Row)
+      → in_order o.framed (open_of o.marks o.depth) (r ∷ rs) ≡ in_order framed (open_of o.marks o.depth) rs)
       → Steps o first r (passing (not first) o first framed)
   unfolding passing
   kept_back m n = decided o first r _ (not first) true (rw (k, and-true)) (rw (m, k) (barred first)) n
@@ -91,42 +132,53 @@ module _ (o : Order) (first : Bool) (r : Row) (framed : Bool) (k : eqb (kind_of 
 -- ---- rows that open and close
 
 module _ (o : Order) (first : Bool) where
+  opened : List Bool
+  opened = open_of o.marks o.depth
+
+  open_count : length opened ≡ o.depth
+  unfolding opened
+  open_count = open_length o.marks o.depth (omega (arith, o.deep, o.long))
+
   -- a RememberState, where 16 are open and where fewer are
-  pub full : length o.marks.items ≡ 16 → Steps o first RememberState None
-  unfolding kind_of in_order pick
+  pub full : 16 ≤ o.depth → Steps o first RememberState None
+  unfolding kind_of in_order pick opened
   full l =
-      let e : ltb (length (reverse o.marks.items)) 16 ≡ false = lt-leb (suc (length (reverse o.marks.items))) 16 (omega (arith, length-reverse o.marks.items)) in
-      decided o first RememberState (record { leading = false; framed = o.framed; marks = o.marks }) false false (sym (and-false first))
+      let e : ltb (length opened) 16 ≡ false = lt-leb (suc (length opened)) 16 (omega (arith, open_count)) in
+      decided o first RememberState (record o { leading = false }) false false (sym (and-false first))
       (sym (and-false (pick (still_leads first RememberState) (may_lead RememberState) true))) (λ rs. rw e)
 
-  pub remembered : {marks : ArrayVec Bool} → length o.marks.items < 16 → marks.items ≡ o.marks.items ++ (o.framed ∷ [])
-      → Steps o first RememberState (Some (record { leading = false; framed = o.framed; marks = marks }))
-  unfolding kind_of may_lead in_order pick
-  remembered l m =
-      let e : ltb (length (reverse o.marks.items)) 16 ≡ true = le-leb (suc (length (reverse o.marks.items))) 16 (omega (arith, length-reverse o.marks.items)) in
-      decided o first RememberState _ true true (sym (and-false first)) (rw (and-false first)) (λ rs. rw (e, m, reverse-append))
+  pub remembered : {d : o.depth + 1 ≤ 16} {l : length (set o.marks o.depth o.framed) ≡ 16} → o.depth < 16
+      → Steps o first RememberState
+      (Some
+      (record {
+        leading = false;
+        framed = o.framed;
+        depth = o.depth + 1;
+        marks = set o.marks o.depth o.framed;
+        deep = d;
+        long = l;
+      }))
+  unfolding kind_of may_lead in_order pick opened
+  remembered h =
+      let e : ltb (length opened) 16 ≡ true = le-leb (suc (length opened)) 16 (omega (arith, open_count)) in
+      decided o first RememberState _ true true (sym (and-false first)) (rw (and-false first))
+      (λ rs. rw (e, add-one o.depth, open_more o.marks o.framed o.depth (omega (arith, o.long))))
 
   -- a RestoreState, where none is open, and where one is: it may not lead
-  pub none_open : (0 < length o.marks.items → ⊥) → Steps o first RestoreState None
+  pub none_open : o.depth ≡ 0 → Steps o first RestoreState None
   unfolding kind_of in_order pick
-  none_open n =
-      let e = none_held o.marks.items n in
-      decided o first RestoreState (record { leading = first; framed = o.framed; marks = o.marks }) false false (sym (and-true first))
+  none_open e =
+      decided o first RestoreState (record o { leading = first }) false false (sym (and-true first))
       (sym (and-false (pick (still_leads first RestoreState) (may_lead RestoreState) true))) (λ rs. rw e)
 
-  module _ (marks : ArrayVec Bool) (framed : Bool) (m : o.marks.items ≡ marks.items ++ (framed ∷ [])) where
-    closed : Steps o first RestoreState (pick (not first) (Some (record { leading = first; framed = framed; marks = marks })) None)
+  module _ (s : Order) (a : s.leading ≡ first) (f : s.framed ≡ get_or o.marks (o.depth - 1) false) where
+    pub restored : s.depth ≡ o.depth - 1 → s.marks ≡ o.marks → 0 < o.depth
+        → Steps o first RestoreState (then_some (not first) s)
     unfolding kind_of may_lead in_order
-    closed = decided o first RestoreState _ (not first) true (sym (and-true first)) (barred first) (λ rs. rw (m, reverse-append))
-
-    in_front : first ≡ true → Steps o first RestoreState None
-    unfolding pick
-    in_front t = rw t (rw t at closed)
-
-    restored : first ≡ false → Steps o first RestoreState (Some (record { leading = false; framed = framed; marks = marks }))
-    unfolding pick
-    restored t = rw t (rw t at closed)
-
-    pub popped : (b : Bool) → b ≡ first → Steps o first RestoreState (then_some (not b) (record { leading = false; framed = framed; marks = marks }))
-    popped true e = in_front (sym e)
-    popped false e = restored (sym e)
+    restored d m l =
+        let e : o.depth ≡ suc (o.depth - 1) = omega arith in
+        let g : open_of o.marks o.depth ≡ get_or o.marks (o.depth - 1) false ∷ open_of o.marks (o.depth - 1) =
+        ap (open_of o.marks) e ∙ open_last o.marks (o.depth - 1) (omega (arith, o.deep, o.long)) in
+        rw given_where
+        (decided o first RestoreState s (not first) true (rw (a, and-true)) (barred first)
+        (λ rs. rw (g, f, d, m)))

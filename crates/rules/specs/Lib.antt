@@ -1,2 +1,3 @@
--- What the state of the row check means.
+-- What the state of the row check means, and the row check of rows that calls give.
 pub mod Orders
+pub mod Whole

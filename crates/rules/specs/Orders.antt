@@ -1,8 +1,6 @@
 -- What the state of the row check means: the part of the check that is left.
-use Rattle.std.specs.Prelude.{◌≡◌, ℕ, ◌+◌, ◌<◌, ◌≤◌, Bool, true, false, ◌&&◌, List, ◌∷◌, reverse, eqb, Option, Some, None}
-use Rattle.std.specs.Bool.{then_some}
-use Rattle.format.specs.Prelude.{pick, all, each}
-use Rattle.format.specs.Lists.{all_in}
+use Rattle.std.specs.Prelude.{◌≡◌, ℕ, Bool, true, false, ◌&&◌, List, ◌∷◌, reverse, take, eqb, Option, Some, None}
+use Rattle.format.specs.Prelude.{pick, all}
 use Rattle.format.specs.declared.Row.{Row}
 use Rattle.format.specs.Rows.{RowAt}
 use Rattle.format.specs.Headers.{ahead}
@@ -15,7 +13,7 @@ leaders_ok leading xs = pick leading (all may_lead (ahead xs)) true
 
 -- the check of the rows that follow: the open ones, the last first
 unfoldable pub follow : Order → List RowAt → Bool
-follow o xs = leaders_ok o.leading xs && in_order o.framed (reverse o.marks.items) (rows_of xs)
+follow o xs = leaders_ok o.leading xs && in_order o.framed (reverse (take o.depth o.marks)) (rows_of xs)
 
 -- where a row may not stand, a no
 abbrev pub follow_some : Option Order → List RowAt → Bool
@@ -28,7 +26,8 @@ pub record Starts (simple : Bool) (o : Order) : Type 0 where
 
 -- a row that opens and closes nothing
 unfoldable pub passing : (ok : Bool) (o : Order) (first framed : Bool) → Option Order
-passing ok o first framed = pick ok (Some (record { leading = first; framed = framed; marks = o.marks })) None
+passing ok o first framed =
+    pick ok (Some (record { leading = first; framed = framed; depth = o.depth; marks = o.marks; deep = o.deep; long = o.long })) None
 
 -- what a row does, where `first` says that it is at offset 0 behind rows that all lead: whatever rows follow, it decides with them
 pub record Steps (o : Order) (first : Bool) (r : Row) (s : Option Order) : Type 0 where
@@ -42,11 +41,3 @@ follow_given o (Some x) xs = follow o (x ∷ xs)
 -- what a row, or what is none, does: whatever rows follow, it decides with them
 pub record Follows (o : Order) (given : Option RowAt) (s : Option Order) : Type 0 where
   pub decides : (xs : List RowAt) → follow_given o given xs ≡ follow_some s xs
-
--- Of the n places from `at` on a call gives the row, where ok says that there is one.
-abbrev pub Gives : (post : ℕ → Option RowAt → Type 0) (ok : ℕ → Bool) (rows : ℕ → RowAt) (at n : ℕ) → Type 0
-Gives post ok rows at n = (i : ℕ) (r : Option RowAt) → at ≤ i → i < at + n → post i r → r ≡ then_some (ok i) (rows i)
-
--- each of them is a row, and they pass the row check
-unfoldable pub all_follow : (simple : Bool) (ok : ℕ → Bool) (rows : ℕ → RowAt) (at n : ℕ) → Bool
-all_follow simple ok rows at n = all_in ok at n && row_check simple (each rows at n)

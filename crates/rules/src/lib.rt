@@ -1,29 +1,34 @@
 // The row check: whether a function's rows state rules at each place. An addition to rucc-asm/src/unwind.rs of tamnd/rucc, which does not ask it.
 #![tactic(auto)]
 
-ghost use Rattle.std.specs.Prelude.{◌≡◌, ℕ, Bool, ◌&&◌, ◌+◌, ◌^◌, ◌<◌, ◌≤◌, eqb};
+ghost use Rattle.std.specs.Prelude.{◌≡◌, ℕ, Bool, ◌&&◌, ◌+◌, ◌^◌, ◌<◌, ◌≤◌, eqb, length};
 ghost use Rattle.std.specs.Bool.{then_some};
 ghost use Rattle.format.specs.Lists.{count, row_stride, row_at, row_ok_at};
 ghost use Rattle.format.specs.RowCheck.{row_check_at};
 ghost use Rattle.format.specs.declared.Row.TheVariants as row;
 ghost use Rattle.format.specs.Rows.{RowAt};
-ghost use Rattle.rules.specs.Orders.{Starts, passing, Steps, Follows, Gives, all_follow};
+ghost use Rattle.rules.specs.Whole.{Gives, all_follow};
 
-use arrayvec::ArrayVec;
 use format::Row;
 use lists::record::Record;
 use lists::{FUNCTION_STRIDE, function};
 
-// Between two rows: whether all so far lead, whether there is a frame address rule, and of the RememberStates that are open,
-// the last at the end, whether there was one there.
-#[derive(Drop)]
+// Between two rows: whether all so far lead, whether there is a frame address rule, and of the `depth`
+// RememberStates that are open, the last at depth - 1, whether there was one there.
+// An array and its count: this type is Copy, which ArrayVec is not.
+#[derive(Clone, Copy)]
 pub struct Order {
     pub leading: bool,
     pub framed: bool,
-    pub marks: ArrayVec<bool, 16>,
+    pub depth: usize,
+    pub marks: [bool; 16],
+    pub ghost deep: { depth ≤ 16 },
+    pub ghost long: { length marks ≡ 16 },
 }
 
 impl Order {
+    ghost use Rattle.rules.specs.Orders.{Starts, passing, Steps, Follows};
+
     // Unless simple a frame address rule leads.
     pub fn start(simple: bool) -> Order
         ensures { Starts simple result }
@@ -31,7 +36,8 @@ impl Order {
         Order {
             leading: true,
             framed: !simple,
-            marks: ArrayVec::new(),
+            depth: 0,
+            marks: [false; 16],
         }
     }
 
@@ -43,14 +49,15 @@ impl Order {
     }
 
     // A row that opens and closes nothing, where it may stand.
-    #[tactic(auto, unfolding(crate::specs::Orders::passing, format::specs::Prelude::pick))]
     fn passes(self, ok: bool, first: bool, framed: bool) -> Option<Order>
         ensures { result ≡ passing ok self first framed }
     {
+        let marks = self.marks;
         ok.then_some(Order {
             leading: first,
             framed,
-            ..self
+            depth: self.depth,
+            marks,
         })
     }
 
@@ -58,13 +65,16 @@ impl Order {
     fn opens(self) -> Option<Order>
         ensures { (first : Bool) → Steps self first row.RememberState result }
     {
-        let mut marks = self.marks;
-        let Ok(()) = marks.try_push(self.framed) else {
+        let depth = self.depth;
+        if 16 <= depth {
             return None;
-        };
+        }
+        let mut marks = self.marks;
+        marks[depth] = self.framed;
         Some(Order {
             leading: false,
             framed: self.framed,
+            depth: depth + 1,
             marks,
         })
     }
@@ -73,11 +83,12 @@ impl Order {
     fn closes(self, first: bool) -> Option<Order>
         ensures { Steps self first row.RestoreState result }
     {
-        let mut marks = self.marks;
-        let framed = marks.pop()?;
+        let last = self.depth.checked_sub(1)?;
+        let marks = self.marks;
         (!first).then_some(Order {
-            leading: false,
-            framed,
+            leading: first,
+            framed: marks[last],
+            depth: last,
             marks,
         })
     }

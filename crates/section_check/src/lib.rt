@@ -111,7 +111,7 @@ impl<'a> Passed<'a> {
     {
         let place = fde.distance_back(self.section.bytes)?;
         let from = self.stretches.before(place);
-        self.section.header_from(from, place, fde.at)
+        self.section.links().header_from(from, place, fde.at)
     }
 
     // Whether the reader answers for register 0 at offset p of a record.

@@ -6,7 +6,7 @@ use mathlib.Core.List.{List}
 use lib.ListN.{length}
 use borrow.Author.Tests.{lt-leb, le-leb}
 use Rattle.format.specs.Lists.{row_ok_at, row_at, mark_ok, mark}
-use Rattle.rules.specs.Orders.{all_follow}
+use Rattle.rules.specs.Whole.{all_follow}
 use Rattle.struct_entries.specs.declared.RowAt.{RowAt}
 use Rattle.struct_entries.specs.Checks.{check_numbers, check_of}
 use Rattle.struct_entries.proofs.Meaning.{all_of, row_count}

@@ -6,6 +6,8 @@ use mathlib.Core.Option.{none, some}
 use mathlib.Core.List.{List, [], ◌∷◌}
 use lib.Dec.{eqb}
 use lib.ListN.{length}
+use native.Mathlib.Omega.{arith}
+use Rattle.std.proofs.lemmas.List.{length-take-le}
 use Rattle.format.specs.Prelude.{pick, Result, good, bad, onward, or_else}
 use Rattle.std.specs.Prelude.{Ok, Err}
 use Rattle.std.specs.Prelude as code
@@ -25,7 +27,7 @@ use Rattle.format.specs.declared.question.Question.{Question}
 use Rattle.walked.specs.Endings.{ending_number}
 use Rattle.walked.specs.declared.chain.Ending.{Ending}
 use Rattle.walked.specs.declared.chain.Walked.{Walked}
-use Rattle.walked.specs.Standing.{walked_of, fault_of}
+use Rattle.walked.specs.Standing.{frames_of, walked_of, fault_of}
 use Rattle.walked.specs.Entry.{chain_numbers, chain_stored, found_numbers, that_fit}
 
 -- ---- the machine
@@ -120,6 +122,10 @@ pub refuses : {r : Result walk.Chain} {n : ℕ} {ns old : List ℕ} → r ≡ ba
 unfolding chain_numbers chain_stored
 refuses e h = (h ∙ rw e, rw e)
 
+-- as many frames as are counted
+pub counted : (w : Walked) → length w.frames ≡ 64 → length (frames_of w) ≡ w.count
+counted w h = length-take-le w.count w.frames (omega (arith, h, w.few))
+
 -- a walk that is refused in front of every frame
 pub refused_walk : (w : Walked) (room : ℕ) {q : Question} → w.ending ≡ Err q → bad (number_of q) ≡ onward (walked_of w) (fitting room)
 unfolding onward
@@ -128,37 +134,37 @@ refused_walk w room e = rw e refl
 -- what the export that lists what was found answers, and leaves in the lent list
 abbrev pub Finds : Walked → (old ns new : List ℕ) → Type 0
 Finds w old ns new =
-    (ns ≡ found_numbers (onward (walked_of w) (fitting (length old))) (length (that_fit (length old) w.frames.items)))
-    × (new ≡ put old 0 (frame_numbers (that_fit (length old) w.frames.items)))
+    (ns ≡ found_numbers (onward (walked_of w) (fitting (length old))) (length (that_fit (length old) (frames_of w))))
+    × (new ≡ put old 0 (frame_numbers (that_fit (length old) (frames_of w))))
 
 module _ (w : Walked) (old : List ℕ) where
-  all_fit : length w.frames.items ≤ length old / 2 → that_fit (length old) w.frames.items ≡ w.frames.items
+  all_fit : length (frames_of w) ≤ length old / 2 → that_fit (length old) (frames_of w) ≡ frames_of w
   unfolding that_fit
-  all_fit h = if-le (length w.frames.items) (length old / 2) w.frames.items [] h
+  all_fit h = if-le (length (frames_of w)) (length old / 2) (frames_of w) [] h
 
   pub refused : {q : Question} {ns : List ℕ} → w.ending ≡ Err q → ns ≡ number_of q ∷ 0 ∷ 0 ∷ [] → Answers (onward (walked_of w) (fitting (length old))) ns old old
   unfolding onward
   refused e h = refuses (rw e) h
 
   -- the frames do not fit, or do
-  module _ (h : length old / 2 < length w.frames.items) where
-    none_fit : that_fit (length old) w.frames.items ≡ []
+  module _ (h : length old / 2 < length (frames_of w)) where
+    none_fit : that_fit (length old) (frames_of w) ≡ []
     unfolding that_fit
-    none_fit = if-gt (length w.frames.items) (length old / 2) w.frames.items [] h
+    none_fit = if-gt (length (frames_of w)) (length old / 2) (frames_of w) [] h
 
     pub none_found : {q : Question} {ns : List ℕ} → w.ending ≡ Err q → ns ≡ number_of q ∷ 0 ∷ 0 ∷ [] → Finds w old ns old
     unfolding onward found_numbers put frame_numbers
     none_found e i = (i ∙ rw (e, none_fit), rw none_fit)
 
   module _ {e : Ending} (is : w.ending ≡ Ok e) where
-    as_chain : onward (walked_of w) (fitting (length old)) ≡ fitting (length old) (record { frames = w.frames.items; ending = ending_number e })
+    as_chain : onward (walked_of w) (fitting (length old)) ≡ fitting (length old) (record { frames = frames_of w; ending = ending_number e })
     unfolding onward
     as_chain = rw is
 
-    module _ (h : length old / 2 < length w.frames.items) where
+    module _ (h : length old / 2 < length (frames_of w)) where
       too_long : onward (walked_of w) (fitting (length old)) ≡ bad 54
       unfolding fitting
-      too_long = as_chain ∙ if-gt (length w.frames.items) (length old / 2) _ (bad 54) h
+      too_long = as_chain ∙ if-gt (length (frames_of w)) (length old / 2) _ (bad 54) h
 
       pub no_room : {ns : List ℕ} → ns ≡ 54 ∷ 0 ∷ 0 ∷ [] → Answers (onward (walked_of w) (fitting (length old))) ns old old
       no_room k = refuses too_long k
@@ -167,24 +173,24 @@ module _ (w : Walked) (old : List ℕ) where
       unfolding found_numbers put frame_numbers
       found_no_room k = (k ∙ rw (too_long, none_fit h), rw (none_fit h))
 
-    module _ (h : length w.frames.items ≤ length old / 2) where
-      fits : onward (walked_of w) (fitting (length old)) ≡ good (record { frames = w.frames.items; ending = ending_number e })
+    module _ (h : length (frames_of w) ≤ length old / 2) where
+      fits : onward (walked_of w) (fitting (length old)) ≡ good (record { frames = frames_of w; ending = ending_number e })
       unfolding fitting
-      fits = as_chain ∙ if-le (length w.frames.items) (length old / 2) (good _) (bad 54) h
+      fits = as_chain ∙ if-le (length (frames_of w)) (length old / 2) (good _) (bad 54) h
 
-      pub stored : {new : List ℕ} → new ≡ put old 0 (frame_numbers w.frames.items)
-          → Answers (onward (walked_of w) (fitting (length old))) (0 ∷ length w.frames.items ∷ ending_number e ∷ []) old new
+      pub stored : {new : List ℕ} → new ≡ put old 0 (frame_numbers (frames_of w))
+          → Answers (onward (walked_of w) (fitting (length old))) (0 ∷ length (frames_of w) ∷ ending_number e ∷ []) old new
       unfolding chain_numbers chain_stored
       stored q = (rw fits, rw fits q)
 
-      pub found_ended : {new : List ℕ} → new ≡ put old 0 (frame_numbers w.frames.items)
-          → Finds w old (0 ∷ length w.frames.items ∷ ending_number e ∷ []) new
+      pub found_ended : {new : List ℕ} → new ≡ put old 0 (frame_numbers (frames_of w))
+          → Finds w old (0 ∷ length (frames_of w) ∷ ending_number e ∷ []) new
       unfolding found_numbers
       found_ended q = (rw (fits, all_fit h), rw (all_fit h) q)
 
-  module _ {q : Question} (is : w.ending ≡ Err q) (h : length w.frames.items ≤ length old / 2) where
-    pub found_refused : {new : List ℕ} → new ≡ put old 0 (frame_numbers w.frames.items)
-        → Finds w old (number_of q ∷ length w.frames.items ∷ 0 ∷ []) new
+  module _ {q : Question} (is : w.ending ≡ Err q) (h : length (frames_of w) ≤ length old / 2) where
+    pub found_refused : {new : List ℕ} → new ≡ put old 0 (frame_numbers (frames_of w))
+        → Finds w old (number_of q ∷ length (frames_of w) ∷ 0 ∷ []) new
     unfolding onward found_numbers
     found_refused k = (rw (is, all_fit h), rw (all_fit h) k)
 
@@ -192,6 +198,6 @@ module _ (w : Walked) (old : List ℕ) where
 pub answers_as : {x y r : Result walk.Chain} (f : walk.Chain → Result walk.Chain) (old : List ℕ) {ns new : List ℕ} → x ≡ y → r ≡ onward y f → Answers (onward x f) ns old new → Answers r ns old new
 answers_as f old e d h = rw (d, ← e) h
 
-pub finds_as : {r : Result walk.Chain} {fs : List Frame} (w : Walked) (old : List ℕ) {ns new : List ℕ} → r ≡ onward (walked_of w) (fitting (length old)) → w.frames.items ≡ fs
+pub finds_as : {r : Result walk.Chain} {fs : List Frame} (w : Walked) (old : List ℕ) {ns new : List ℕ} → r ≡ onward (walked_of w) (fitting (length old)) → frames_of w ≡ fs
     → Finds w old ns new → (ns ≡ found_numbers r (length (that_fit (length old) fs))) × (new ≡ put old 0 (frame_numbers (that_fit (length old) fs)))
 finds_as w old e f h = rw (e, ← f) h

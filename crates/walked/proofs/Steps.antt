@@ -3,18 +3,15 @@ use mathlib.Core.Path.{◌≡◌, refl, sym, ap}
 use mathlib.Core.Option.{Option, none, some}
 use mathlib.Core.List.{List}
 use Prim.Native.Nat.{ℕ, ◌≤◌, ◌<◌}
-use mathlib.Core.Bool.{true, false}
-use borrow.Author.Tests.{eqb-true, eqb-false}
-use lib.Dec.{eqb}
 use native.Mathlib.Omega.{arith}
-use lib.ListN.{length}
+use lib.ListN.{length, take}
+use Rattle.std.proofs.lemmas.List.{length-take-le}
 use Rattle.std.specs.Prelude.{Some, None}
 use Rattle.format.specs.Prelude.{after}
 use Rattle.walk.specs.declared.Holder.{Holder}
 use Rattle.walk.specs.declared.Frame.{Frame}
-use Rattle.walk.specs.Walk.{Source, Fault, Held, Caller, looked_up, held_from, held_at}
+use Rattle.walk.specs.Walk.{Fault, Held, Caller, looked_up, held_from, held_at}
 use Rattle.walk.specs.Standing.{holder_of}
-use Rattle.walk.proofs.Chains.{Going}
 
 nobody : (o : Option Held) → None ≡ holder_of o → o ≡ none
 nobody none e = refl
@@ -35,10 +32,11 @@ module _ (e : Fault) (c : Caller) where
   unfolding held_at
   held_by h = holding _ h
 
--- the frames so far, by the loop's test
-module _ {src : Source} {e : Fault} {c₀ : Caller} {fs : List Frame} {c : Caller} (g : Going src e c₀ fs c) where
-  pub room : eqb (length fs) 64 ≡ false → length fs < 64
-  room t = let n = eqb-false (length fs) 64 t in omega (arith, g.few)
+-- the frames so far, of an array of 64
+module _ (fs : List Frame) (k : ℕ) (full : length fs ≡ 64) where
+  pub room : k < 64 → length (take k fs) < 64
+  room h = omega (arith, length-take-le k fs (omega arith))
 
-  pub no_room : eqb (length fs) 64 ≡ true → 64 ≤ length fs
-  no_room t = omega (arith, eqb-true (length fs) 64 t)
+  -- and all of them behind the last turn
+  pub no_room : k ≡ 64 → 64 ≤ length (take k fs)
+  no_room e = omega (arith, length-take-le k fs (omega arith))

@@ -1,12 +1,12 @@
 -- What the types of the code stand for, and the rules at an offset of a record that was located.
-use Rattle.std.specs.Prelude.{ℕ, Bool, true, false, List, Ok, Err}
+use Rattle.std.specs.Prelude.{ℕ, Bool, true, false, List, take, drop, Ok, Err}
 use Rattle.std.specs.Prelude as code
 use Rattle.format.specs.Prelude.{pick, Result, good, bad, onward}
 use Rattle.format.specs.Rules.{AllRules, State, blank}
 use Rattle.format.specs.Reader.{run_to}
 use Rattle.reader.specs.Finds.{found, in_section}
 use Rattle.reader.specs.declared.location.Located.{Located}
-use Rattle.walk.specs.Recorded.{Slot}
+use Rattle.walk.specs.Recorded.{Slot, slots_of}
 use Rattle.walk.specs.Walk.{Source, Memory, Ruled, Fault, placed_of, by_section}
 use Rattle.walk.specs.Walk as walk
 use Rattle.walk.specs.Standing.{slots}
@@ -17,6 +17,7 @@ use Rattle.format.specs.Numbers.{number_of}
 use Rattle.format.specs.declared.question.Question.{Question}
 use Rattle.walked.specs.Endings.{ending_number}
 use Rattle.walk.specs.declared.Frame.{Frame}
+use Rattle.walk.specs.declared.Trailer.{Trailer}
 use Rattle.walked.specs.declared.chain.Ending.{Ending}
 use Rattle.walked.specs.declared.chain.Walked.{Walked}
 
@@ -65,12 +66,20 @@ all_left (Err q) = bad (number_of q)
 
 -- ---- the frames
 
+-- the frame that was at fault, by the registers of a record file
+abbrev pub start_of : Trailer → (file : List ℕ) → (pc : ℕ) → walk.Caller
+start_of t file pc = record { slots = slots_of t.count (drop t.size file); pc = pc; exact = true }
+
 abbrev pub chain_as : List Frame → code.Result Ending Question → Result walk.Chain
 chain_as fs (Ok e) = good (record { frames = fs; ending = ending_number e })
 chain_as fs (Err q) = bad (number_of q)
 
+-- those of the array that are used
+abbrev pub frames_of : Walked → List Frame
+frames_of w = take w.count w.frames
+
 abbrev pub walked_of : Walked → Result walk.Chain
-walked_of w = chain_as w.frames.items w.ending
+walked_of w = chain_as (frames_of w) w.ending
 
 abbrev pub fault_of : Machine → Memory → (functions : List ℕ) → Fault
 fault_of m memory functions = record { machine = m; memory = memory; functions = placed_of functions }

@@ -1,8 +1,7 @@
 // The frames of a walk, and why it ended.
-ghost use Rattle.std.specs.Prelude.{◌≡◌, []};
+ghost use Rattle.std.specs.Prelude.{◌≡◌, [], ◌≤◌};
 ghost use Rattle.walked.specs.Endings.{ending_number};
 
-use arrayvec::ArrayVec;
 use format::Question;
 use walk::Frame;
 
@@ -26,20 +25,29 @@ impl Ending {
     }
 }
 
+// The most frames of a walk.
+pub(crate) const MOST_FRAMES: usize = 64;
+
 // The frames that a walk found, up to 64, and why it ended, or by which question it was refused.
-#[derive(Drop)]
+// Kept: an array and how many of it are used, since `Walked` is `Copy`, which an `ArrayVec` is not.
+#[derive(Clone, Copy)]
 pub struct Walked {
-    pub frames: ArrayVec<Frame, 64>,
+    pub frames: [Frame; MOST_FRAMES],
+    pub count: usize,
     pub ending: Result<Ending, Question>,
+    ghost few: { count ≤ 64 },
 }
 
 impl Walked {
+    ghost use Rattle.walked.specs.Standing.{frames_of};
+
     // Refused in front of every frame.
     pub fn refused(question: Question) -> Walked
-        ensures { (result.frames.items ≡ []) × (result.ending ≡ Err question) }
+        ensures { (frames_of result ≡ []) × (result.ending ≡ Err question) }
     {
         Walked {
-            frames: ArrayVec::new(),
+            frames: [Frame::default(); MOST_FRAMES],
+            count: 0,
             ending: Err(question),
         }
     }

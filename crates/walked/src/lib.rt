@@ -13,17 +13,16 @@ ghost use Rattle.walk.specs.Found.{found_f, found};
 ghost use Rattle.walk.specs.Standing.{memory_of, slots, left_of, caller_as, step_of};
 ghost use Rattle.walked.specs.Entry.{numbers_of, chain_numbers, chain_stored, found_numbers, that_fit, found_answer, found_left};
 ghost use Rattle.walked.specs.Named.{names, operation_names, Marked, MarkedAll, MarksIn};
-ghost use Rattle.walked.specs.Standing.{rules_at, ruled_at, source_at, section_of, all_left, walked_of, fault_of};
+ghost use Rattle.walked.specs.Standing.{rules_at, ruled_at, source_at, section_of, all_left, start_of, frames_of, walked_of, fault_of};
 ghost use Rattle.walked.specs.Faults.{fault_by};
 
-use crate::chain::{Ending, Walked};
+use crate::chain::{Ending, MOST_FRAMES, Walked};
 use crate::fault::Fault;
 use crate::leaving::Leaving;
-use arrayvec::ArrayVec;
 use format::{Machine, Operation, Question, Row, Rules};
 use reader::location::Located;
 use reader::operation::Operations;
-use walk::{Caller, Frame, Holder, Memory};
+use walk::{Caller, Frame, Holder, Memory, Trailer};
 
 pub mod chain;
 pub mod fault;
@@ -218,31 +217,34 @@ impl Fault<'_, '_, '_> {
     // frame's caller is refused it is the last.
     pub fn frames(&self, start: Caller) -> Walked
         ensures walked { walked_of result ≡ frames_f (section_of self.now.section) (fault_by self.now) 64 (caller_as start) }
-        ensures found { result.frames.items ≡ found_f (section_of self.now.section) (fault_by self.now) 64 (caller_as start) }
+        ensures found { frames_of result ≡ found_f (section_of self.now.section) (fault_by self.now) 64 (caller_as start) }
     {
         let mut caller = start;
-        let mut frames = ArrayVec::new();
-        'callers: while !frames.is_full() {
+        let mut frames = [Frame::default(); MOST_FRAMES];
+        for count in 0..MOST_FRAMES {
             let Some(holder) = walk::held(self.functions, caller.exact, caller.pc) else {
                 return Walked {
                     frames,
+                    count,
                     ending: Ok(Ending::Unheld),
                 };
             };
-            frames.push(Frame {
+            frames[count] = Frame {
                 position: holder.position,
                 pc: caller.pc,
-            });
+            };
             match self.caller_by(caller.registers, holder) {
                 Err(question) => {
                     return Walked {
                         frames,
+                        count: count + 1,
                         ending: Err(question),
                     };
                 }
                 Ok(None) => {
                     return Walked {
                         frames,
+                        count: count + 1,
                         ending: Ok(Ending::Undefined),
                     };
                 }
@@ -255,6 +257,7 @@ impl Fault<'_, '_, '_> {
         };
         Walked {
             frames,
+            count: MOST_FRAMES,
             ending: Ok(ending),
         }
     }
@@ -262,17 +265,28 @@ impl Fault<'_, '_, '_> {
 
 // ---- the entry
 
-// 11 and 12 for the machine, and then the frames.
-// Kept: its parameters one by one: all but the start are `Fault`'s, which knows `ret` and is made once question 11 has passed.
+// 11 and 12 for the machine, and then the frames, from the registers of the record file. These are read last, so that
+// a machine is refused without them.
+// Kept: its parameters one by one: `Fault` knows `ret` and is made once question 11 has passed.
 fn chain_of(
     machine: &[u64],
+    file: &[u8],
+    trailer: Trailer,
     section: Section,
+    pc: u64,
     memory: Memory,
     functions: &[u64],
-    start: Caller,
 ) -> Walked
-    ensures walked { walked_of result ≡ pick (machine_ok machine.now) (pick (eqb (machine_of machine.now).word 8) (frames_f (section_of section.entry) (fault_of (machine_of machine.now) (memory_of memory.entry) functions.now) 64 (caller_as start)) (bad 12)) (bad 11) }
-    ensures found { result.frames.items ≡ pick (machine_ok machine.now && eqb (machine_of machine.now).word 8) (found_f (section_of section.entry) (fault_of (machine_of machine.now) (memory_of memory.entry) functions.now) 64 (caller_as start)) [] }
+    requires { trailer.size ≤ 65536 }
+    ensures walked { walked_of result
+        ≡ pick (machine_ok machine.now)
+        (pick (eqb (machine_of machine.now).word 8)
+        (frames_f (section_of section.entry) (fault_of (machine_of machine.now) (memory_of memory.entry) functions.now)
+        64 (start_of trailer file.now pc)) (bad 12)) (bad 11) }
+    ensures found { frames_of result
+        ≡ pick (machine_ok machine.now && eqb (machine_of machine.now).word 8)
+        (found_f (section_of section.entry) (fault_of (machine_of machine.now) (memory_of memory.entry) functions.now)
+        64 (start_of trailer file.now pc)) [] }
 {
     let known = match lists::read_machine(machine) {
         Ok(known) => known,
@@ -281,6 +295,11 @@ fn chain_of(
     if known.word != 8 {
         return Walked::refused(Question::X64Word);
     }
+    let start = Caller {
+        registers: walk::registers(file, trailer.size, trailer.count),
+        pc,
+        exact: true,
+    };
     let fault = Fault {
         machine: known,
         section,
@@ -320,13 +339,13 @@ fn stored(w: Walked, out: &mut [u64]) -> Answer
         Ok(ending) => ending,
         Err(question) => return Answer::from(question),
     };
-    if out.len() / walk::FRAME_STRIDE < w.frames.len() {
+    if out.len() / walk::FRAME_STRIDE < w.count {
         return Answer::from(Question::OtherRoom);
     }
-    walk::store(w.frames.as_slice(), out);
+    walk::store(&w.frames[..w.count], out);
     Answer {
         number: 0,
-        frames: w.frames.len() as u64,
+        frames: w.count as u64,
         ending: ending.number(),
     }
 }
@@ -334,17 +353,17 @@ fn stored(w: Walked, out: &mut [u64]) -> Answer
 // The frames that were found at the front of a lent list, where it has room for them, and how the walk ended or by
 // which question it was refused: 54 is one of these.
 fn found_stored(w: Walked, out: &mut [u64]) -> Answer
-    ensures result_value { numbers_of result ≡ found_numbers (onward (walked_of w) (fitting (length out.old))) (length (that_fit (length out.old) w.frames.items)) }
-    ensures out_after { out.new ≡ put out.old 0 (frame_numbers (that_fit (length out.old) w.frames.items)) }
+    ensures result_value { numbers_of result ≡ found_numbers (onward (walked_of w) (fitting (length out.old))) (length (that_fit (length out.old) (frames_of w))) }
+    ensures out_after { out.new ≡ put out.old 0 (frame_numbers (that_fit (length out.old) (frames_of w))) }
 {
-    if out.len() / walk::FRAME_STRIDE < w.frames.len() {
+    if out.len() / walk::FRAME_STRIDE < w.count {
         return match w.ending {
             Ok(_) => Answer::from(Question::OtherRoom),
             Err(question) => Answer::from(question),
         };
     }
-    walk::store(w.frames.as_slice(), out);
-    let frames = w.frames.len() as u64;
+    walk::store(&w.frames[..w.count], out);
+    let frames = w.count as u64;
     match w.ending {
         Ok(ending) => Answer {
             number: 0,
@@ -370,21 +389,16 @@ fn walked(
     functions: &[u64],
 ) -> Walked
     ensures walked { (room : ℕ) → walk_by (section_of section.entry) machine.now file.now pc stack functions.now room ≡ onward (walked_of result) (fitting room) }
-    ensures found { result.frames.items ≡ found (section_of section.entry) machine.now file.now pc stack functions.now }
+    ensures found { frames_of result ≡ found (section_of section.entry) machine.now file.now pc stack functions.now }
 {
-    let Some(recorded) = walk::read_recorded(file) else {
+    let Some(trailer) = walk::read_trailer(file) else {
         return Walked::refused(Question::Recorded);
     };
     let memory = Memory {
         address: stack,
-        bytes: recorded.stack,
+        bytes: &file[..trailer.size],
     };
-    let start = Caller {
-        registers: recorded.registers,
-        pc,
-        exact: true,
-    };
-    chain_of(machine, section, memory, functions, start)
+    chain_of(machine, file, trailer, section, pc, memory, functions)
 }
 
 // The frames of a recorded fault, by the section: 73 for the record file, 11 and 12 for the machine, what a frame is refused by, and 54 last.

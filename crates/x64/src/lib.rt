@@ -183,6 +183,9 @@ impl Iterator for UnwindCodes<'_, '_> {
     // A row that ends no instruction yields no code: the iterator goes on to the next.
     // Kept: a while. It is the next of an iterator, whose place among the records is its state; a range there in place of the number gives the same
     // loop by while let, and the ghost field would speak of the range's two ends.
+    // Always inlined: as a call it stores its place and the code that it yields, and divides for `len`,
+    // at each code of each walk.
+    #[inline(always)]
     fn next(&mut self) -> Option<UnwindCode> {
         while self.next < self.records.len() {
             let piece = self.piece();
@@ -236,6 +239,17 @@ impl Span<'_, '_> {
         t
     }
 
+    // How many slots of two bytes they have, without their questions.
+    fn slots(&self) -> usize
+        ensures { result ≡ slots (codes_by self.now) }
+    {
+        let mut held = 0;
+        for c in self.codes() {
+            held += c.nodes_size() / 2;
+        }
+        held
+    }
+
     // The questions of its codes: 34 to 39 of each, 35 of the prologue's end, 40, and 41 of each.
     fn prologue_no(&self) -> Result<(), Question>
         ensures { numbered result ≡ yes_or_no (prologue_no self.now.end (codes_by self.now)) }
@@ -285,8 +299,7 @@ impl Passed<'_, '_> {
     fn info_size(&self) -> usize
         ensures { result ≡ length (info_by self.now.span) }
     {
-        let t = self.span.codes_summary();
-        let held = t.slots;
+        let held = self.span.slots();
         4 + 2 * held + 2 * (held % 2)
     }
 
@@ -295,8 +308,7 @@ impl Passed<'_, '_> {
         requires { at + length (info_by self.now.span) ≤ length out.old }
         ensures { Wrote out.old out.new at result (info_by self.now.span) }
     {
-        let t = self.span.codes_summary();
-        let held = t.slots;
+        let held = self.span.slots();
         let frame = self.frame_byte();
         let a = head(out, at, self.span.end as u8, held as u8, frame);
         let b = self.put_codes(out, a, held);

@@ -7,12 +7,14 @@ use mathlib.Core.List.{List, [], ◌∷◌}
 use lib.Dec.{T, eqb}
 use lib.IntN.{ℤ}
 use mir.Facts.{eqb_no, yes_eqb, no_eqb}
-use Rattle.format.specs.Prelude.{pick}
+use Rattle.format.specs.Prelude.{pick, good}
 use Rattle.format.specs.declared.Seh.{Seh}
 use Rattle.format.specs.declared.Seh.TheVariants.{Push, Alloc, Frame, Save}
 use Rattle.format.specs.X64.{size64}
+use Rattle.format.specs.X64Reader.{Info, has_frame, read_x64}
 use Rattle.format.proofs.Choice.{pick_yes, pick_no}
-use Rattle.x64_back.specs.Undo.{State, rsp, stack_pointer, set_at, loaded, with_register, with_memory, with_vector, does, prologue_from, below, undoes, undo_from, names, Unnamed, KeptBy, FrameKept, FitsCode, AddressesFit}
+use Rattle.x64_back.specs.Given.{frame_of}
+use Rattle.x64_back.specs.Undo.{State, rsp, stack_pointer, set_at, loaded, with_register, with_memory, with_vector, does, prologue_from, below, base_in, done, undoes, undo_from, undone, names, Unnamed, KeptBy, FrameKept, FitsCode, AddressesFit}
 
 turned : (a b : ℕ) → T (not (eqb a b)) → T (not (eqb b a))
 turned a b t = no_eqb {a = b} {b = a} (λ e. eqb_no {a = a} {b = b} t (sym e))
@@ -109,3 +111,16 @@ module _ (base base' : ℕ) where
       let e : stack_pointer (does base c.1 s) ≡ below (stack_pointer s) c.1 = goes_below base c.1 s n.0 in
       one_back c.1 cs s n.0 k.0 f.0
       (pointer_back cs (does base c.1 s) n.1 k.1 (subst (λ sp. AddressesFit sp cs) (sym e) f.1) ∙ e)
+
+-- What was read of any bytes, undone in reverse after the full prologue, gives the entry's stack pointer, where
+-- no code names the stack pointer, none after a frame code names the frame register, and the addresses fit 64
+-- bits.
+pub entry_pointer : (bytes : List ℕ) (place room : ℕ) (i : Info) → read_x64 bytes place room ≡ good i
+    → (s : State) → Unnamed rsp i.codes → FrameKept i.codes → AddressesFit (stack_pointer s) i.codes
+    → stack_pointer (undone i.codes (done i.codes s)) ≡ stack_pointer s
+unfolding undone done
+entry_pointer bytes place room i e s n k f =
+    let d : State = done i.codes s in
+    let frame : ℕ × ℕ = frame_of i.codes in
+    pointer_back (base_in i.codes (stack_pointer s))
+    (pick (has_frame i.codes) (d.registers frame.0 - frame.1) (stack_pointer d)) i.codes s n k f

@@ -3,7 +3,7 @@ use mathlib.Core.Path.{◌≡◌, refl, ap, ◌∙◌}
 use Prim.Native.Nat.{ℕ, zero, suc, ◌+◌, ◌*◌, ◌≤◌, ◌<◌}
 use native.Mathlib.Omega.{arith}
 use mathlib.Core.Option.{Option, none, some}
-use mathlib.Core.List.{List, [], ◌∷◌, ◌++◌, map, append_assoc}
+use mathlib.Core.List.{List, [], ◌∷◌, ◌++◌, map, append_assoc, append-nil}
 use lib.Dec.{eqb, leb→le}
 use lib.ListN.{length, get_or, get_elem?, drop, length-append, length-drop, get_or-append}
 use lib.Seq.{drop_at, drop-append-le}
@@ -12,7 +12,7 @@ use Rattle.format.specs.declared.Machine.{Machine}
 use Rattle.format.specs.declared.Seh.{Seh}
 use Rattle.format.specs.Machine.{machine_of}
 use Rattle.format.specs.Constants.{coff}
-use Rattle.format.specs.Lists.{Function, Prologue, prologue_stride, code_stride, count, prologue_at, prologues_of}
+use Rattle.format.specs.Lists.{Function, Prologue, prologue_stride, function_stride, code_stride, count, prologue_at, prologues_of}
 use Rattle.format.specs.Writer.{Written, joined}
 use Rattle.format.specs.X64.{codes_of, prologue_of, prologue_no, info_bytes, markers_from, x64}
 use Rattle.format.specs.X64Reader.{read_info, read_x64, info_numbers, codes_stored}
@@ -140,18 +140,43 @@ buffers_back ps p b q s w e k f g {p' = p'} {s' = s'} {ns} {new} old {place} is 
 
 -- ---- direct codes
 
+-- function k of a list that was accepted
+record Direct (fs codes : List ℕ) (r : Room) (w : Written) (k : ℕ) : Type 0 where
+  prologues : List Prologue
+  answer : codes_answer prologues r ≡ accepted w
+  found : get_elem? prologues k ≡ some (prologue_at fs codes k)
+
+direct : (fs codes : List ℕ) (r : Room) (w : Written) → seh fs codes r ≡ accepted w
+    → (k : ℕ) → k < count prologue_stride fs → Direct fs codes r w k
+unfolding seh prologues_of
+direct fs codes r w e k h =
+    let a = passed _ _ _ (not_empty (eqb (count prologue_stride fs) 0) _ w e) in
+    record {
+      prologues = each (prologue_at fs codes) 0 (count prologue_stride fs);
+      answer = (passed _ _ _ a.1).1;
+      found =
+          each_get (prologue_at fs codes) 0 (count prologue_stride fs) k h
+          ∙ ap (λ (i : ℕ). some (prologue_at fs codes i)) (omega arith);
+    }
+
+-- What `seh` wrote of function k, with at most one frame code, reads at its marker as it was given.
+pub seh_back : (fs codes : List ℕ) (r : Room) (w : Written) → seh fs codes r ≡ accepted w
+    → (k : ℕ) → k < count prologue_stride fs → frame_codes (prologue_at fs codes k).codes ≤ 1
+    → (room : ℕ) → code_stride * length (prologue_at fs codes k).codes ≤ room
+    → read_x64 w.sites (get_or w.places k 0) room ≡ good (given (prologue_at fs codes k))
+seh_back fs codes r w e k h one room l =
+    let d = direct fs codes r w e k h in
+    let f : Prologue = prologue_at fs codes k in
+    rw (append-nil w.sites) at (record_back d.prologues r w d.answer k f d.found [] one room l)
+
 -- `seh`, and then the reader on its buffers
 pub together : (fs codes p b q s : List ℕ) {p' b' q' s' ns new : List ℕ} (old : List ℕ) {o : Outcome} (k : ℕ) {place : ℕ}
     → Writes (seh fs codes (room_in p b q s)) o p p' b b' q q' s s' → place ≡ get_or p' k 0
     → ns ≡ info_numbers (read_x64 s' place (length old)) → new ≡ codes_stored (read_x64 s' place (length old)) old
     → ReadBack fs codes (seh fs codes (room_in p b q s)) k ns old new
-unfolding seh prologues_of
 together fs codes p b q s old k writes at h n w e l =
-    let a = passed _ _ _ (not_empty (eqb (count prologue_stride fs) 0) _ w e) in
-    let c = passed _ _ _ a.1 in
-    let found : get_elem? (each (prologue_at fs codes) 0 (count prologue_stride fs)) k ≡ some (prologue_at fs codes k) =
-    each_get (prologue_at fs codes) 0 (count prologue_stride fs) k l ∙ ap (λ (i : ℕ). some (prologue_at fs codes i)) (omega arith) in
-    buffers_back (each (prologue_at fs codes) 0 (count prologue_stride fs)) p b q s w c.1 k (prologue_at fs codes k) found old e writes at
+    let d = direct fs codes (room_in p b q s) w e k l in
+    buffers_back d.prologues p b q s w d.answer k (prologue_at fs codes k) d.found old e writes at
     (record { answer = h; stored = n })
 
 -- ---- COFF: the codes by a function's rows
@@ -201,21 +226,57 @@ unfolding prologues_answer
 answered (made ps) r w e = record { prologues = ps; are = refl; answer = e }
 answered (stopped n k) r w e = let z : ◌≡◌ {A = ℕ} 0 1 = cc in absurd (omega arith)
 
+-- function k of a list that was accepted in COFF
+record ByRows (g : Given) (r : Room) (w : Written) (k : ℕ) : Type 0 where
+  prologues : List Prologue
+  answer : codes_answer prologues r ≡ accepted w
+  made : MadeAt (machine_of g.machine) (given_function g k) prologues k
+
+by_rows : (g : Given) (r : Room) (w : Written) → relaxed_table coff g r ≡ accepted w
+    → (k : ℕ) → k < count function_stride g.functions → ByRows g r w k
+unfolding relaxed_table format_answer windows_answer pick
+by_rows g r w e k h =
+    let m : Machine = machine_of g.machine in
+    let a = passed _ _ _ (not_empty (no_functions g) _ w e) in
+    let c = answered (prologues_for m 0 (given_functions g)) r w (passed _ _ _ a.1).1 in
+    record {
+      prologues = c.prologues;
+      answer = c.answer;
+      made = made_at m 0 (given_functions g) c.prologues k (given_function g k) c.are (function_at_lem g k h);
+    }
+
+-- What `relaxed_table` wrote in COFF: function k's rows have codes, and where at most one of them is a frame code
+-- its record reads as these.
+pub record CoffBack (g : Given) (w : Written) (k : ℕ) : Type 0 where
+  pub codes : List (ℕ × Seh)
+  pub are : codes_of (machine_of g.machine) (given_function g k) ≡ good codes
+  pub back : frame_codes codes ≤ 1 → (room : ℕ) → code_stride * length codes ≤ room
+      → read_x64 w.sites (get_or w.places k 0) room ≡ good (given (prologue_of (given_function g k) codes))
+
+pub coff_back : (g : Given) (r : Room) (w : Written) → relaxed_table coff g r ≡ accepted w
+    → (k : ℕ) → k < count function_stride g.functions → CoffBack g w k
+unfolding prologue_of
+coff_back g r w e k h =
+    let d = by_rows g r w e k h in
+    let f : Prologue = prologue_of (given_function g k) d.made.codes in
+    record {
+      codes = d.made.codes;
+      are = d.made.are;
+      back = λ one room l.
+          rw (append-nil w.sites) at (record_back d.prologues r w d.answer k f d.made.there [] one room l);
+    }
+
 -- `relaxed_table` in COFF, and then the reader on its buffers
 pub rows_together : (g : Given) (p b q s : List ℕ) {p' b' q' s' ns new : List ℕ} (old : List ℕ) {o : Outcome} (k : ℕ) {place : ℕ}
     → Writes (relaxed_table coff g (room_in p b q s)) o p p' b b' q q' s s' → place ≡ get_or p' k 0
     → ns ≡ info_numbers (read_x64 s' place (length old)) → new ≡ codes_stored (read_x64 s' place (length old)) old
     → RowsBack g (relaxed_table coff g (room_in p b q s)) k ns old new
-unfolding relaxed_table format_answer windows_answer pick
 rows_together g p b q s old k writes at h n w e l =
-    let m : Machine = machine_of g.machine in
-    let a = passed _ _ _ (not_empty (no_functions g) _ w e) in
-    let c = answered (prologues_for m 0 (given_functions g)) (room_in p b q s) w (passed _ _ _ a.1).1 in
-    let d = made_at m 0 (given_functions g) c.prologues k (given_function g k) c.are (function_at_lem g k l) in
+    let d = by_rows g (room_in p b q s) w e k l in
     record {
-      codes = d.codes;
-      are = d.are;
+      codes = d.made.codes;
+      are = d.made.are;
       read =
-          buffers_back c.prologues p b q s w c.answer k (prologue_of (given_function g k) d.codes) d.there old e writes at
-          (record { answer = h; stored = n });
+          buffers_back d.prologues p b q s w d.answer k (prologue_of (given_function g k) d.made.codes) d.made.there
+          old e writes at (record { answer = h; stored = n });
     }

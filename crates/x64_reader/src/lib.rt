@@ -79,7 +79,8 @@ pub struct Code {
     pub past: Position,
 }
 
-// The code at a position of a record's slots.
+// The code at a position of a record's slots. It is inlined with the iterator's `next`.
+#[inline(always)]
 fn code_at(s: &[u8], at: Position, frame: u8) -> Option<Code>
     ensures { CodeSays frame s.now at result }
 {
@@ -124,6 +125,8 @@ impl Iterator for Slots<'_> {
 
     ghost remaining = { λ s. at_most (length s.bytes.now - s.at.at) };
 
+    // Always inlined: as a call it stores its place and each code that it yields, to be read back at once.
+    #[inline(always)]
     fn next(&mut self) -> Option<Option<Code>> {
         if self.bytes.len() <= self.at.at {
             return None;

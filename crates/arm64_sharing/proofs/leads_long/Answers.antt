@@ -1,16 +1,31 @@
 -- `arm64_sharing::leads_long` meets its contract.
-use Rattle.std.proofs.Common.{rules, ap, ◌∙◌}
-use Rattle.std.proofs.lemmas.Iterator.{YieldsList-from_zip}
-use Rattle.std.proofs.lemmas.Iterator.Consumers.{YieldsList-from_first}
-use Rattle.std.proofs.lemmas.Iterator.Search.{all_from_yields_List}
-use borrow.Author.Tests.{tests}
+use mathlib.Core.Path.{ap, ◌∙◌}
+use native.Mathlib.Omega.{arith}
 use Rattle.arm64_simple.specs.Steps.{steps_left}
-use Rattle.arm64_sharing.proofs.Comparing.{same_written, leads_all}
+use Rattle.arm64_simple.proofs.OneCode.{differing, agreeing}
+use Rattle.arm64_sharing.proofs.Comparing.{agreeing_start, agreeing_low, agreeing_stopped}
+use Rattle.arm64_sharing.proofs.Comparing.{agreeing_turn, agreeing_ended}
 use Rattle.arm64_sharing.proofs.leads_long.Goals as goal
 
+pub loop-s-init : goal.loop-s-init
+loop-s-init c =
+    let run = c.args.run.now in
+    let other = c.args.other.now in
+    agreeing_start run.list.now other.list.now run.run other.run
+    (ap steps_left c.into_iter-s-iterator.ensures.into_iter_gives ∙ c.steps-s-items.ensures)
+
+pub saved_at-requires : goal.saved_at-requires
+saved_at-requires c = omega (arith, agreeing_low c.loop-s.invariant c.in-Some.ensures.steps, c.requires)
+
+pub returns-then-ne : goal.returns-then-ne
+returns-then-ne c =
+    agreeing_stopped c.loop-s.invariant c.in-Some.ensures.steps c.requires
+    c.saved_at.ensures c.simple.ensures (differing _ _ c.if-ne.ensures)
+
+pub loop-s-preserved : goal.loop-s-preserved
+loop-s-preserved c =
+    agreeing_turn c.loop-s.invariant c.in-Some.ensures.steps c.requires
+    c.saved_at.ensures c.simple.ensures (agreeing _ _ c.if-ne.ensures)
+
 pub returns : goal.returns
-returns c =
-    all_from_yields_List same_written c.all.new.self _ _ c.all.ensures.ran
-    (YieldsList-from_zip (YieldsList-from_first (λ x. x) steps_left {s = c.zip.result.a} _ (ap steps_left c.zip.ensures.first ∙ c.steps.ensures)) (YieldsList-from_first (λ x. x) steps_left {s = c.zip.result.b} _ (ap steps_left c.zip.ensures.second ∙ c.steps-2.ensures)))
-    (λ x b q k. search (rules, tests))
-    ∙ leads_all c.args.run.now.list.now c.args.other.now.list.now c.args.run.now.run c.args.other.now.run c.requires
+returns c = agreeing_ended c.loop-s.invariant c.in-None.ensures.steps.0

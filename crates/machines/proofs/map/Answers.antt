@@ -1,15 +1,14 @@
 -- `machines::map` meets its contract.
-use mathlib.Core.Path.{◌≡◌, ◌∙◌}
 use native.Mathlib.Omega.{arith}
-use lib.ListN.{length}
 use borrow.Author.Rules.{rules}
-use Rattle.format.proofs.Copied.{copied}
-use Rattle.machines.proofs.Stores.{same_items}
+use Rattle.machines.proofs.Stores.{start, turn, ended}
 use Rattle.machines.proofs.map.Goals as goal
 
+pub loop-i-init : goal.loop-i-init
+loop-i-init c = (start _ _ _, search rules)
+
+pub loop-i-preserved : goal.loop-i-preserved
+loop-i-preserved c = let i = c.loop-i.invariant in (rw c.from.ensures (turn i.0 (omega (arith, i.1, c.loop-i-test.true))), i.1)
+
 pub returns : goal.returns
-returns c =
-    let a = c.args in
-    let l : length a.numbers ≡ 64 = search rules in
-    let m : c.map.result ≡ a.numbers = same_items a.numbers c.map.result (omega (arith, l, c.map.ensures.items.long)) (λ i h. let k = c.map.ensures.items.at i 0 0 (omega (arith, l)) in search rules) in
-    copied (c.copy_from_slice.ensures.after ∙ m) (omega (arith, l)) (omega arith) (omega arith)
+returns c = let i = c.loop-i.invariant in record { past = omega (arith, i.1); stored = ended i.0 (omega (arith, i.1, c.loop-i-test.false)) }

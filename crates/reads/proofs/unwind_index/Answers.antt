@@ -14,4 +14,4 @@ unfolding asked
 returns c =
     let a = c.args in
     let d = rw c.in-Some.is at c.section_of.ensures in
-    index_asked a.section.now a.relocations.now a.kind a.word a.places.now d.2.0 c.from-2.ensures (rw (d.0, d.1, d.2.1) at c.index_in.ensures)
+    index_asked a.section.now a.relocations.now a.kind a.word a.places.now d.2.0 c.from-2.ensures (rw (c.links.ensures.0, c.links.ensures.1, c.links.ensures.2, d.0, d.1, d.2.1) at c.index_in.ensures)

@@ -8,7 +8,7 @@ use Rattle.lists.proofs.Answers.{accepted, reached}
 use Prim.Native.Nat.{◌<◌}
 use Rattle.format.specs.Lists.{count, function_stride, row_ok_at, row_at, mark_ok, mark}
 use Rattle.format.specs.RowCheck.{row_check_at}
-use Rattle.rules.specs.Orders.{all_follow}
+use Rattle.rules.specs.Whole.{all_follow}
 use Rattle.rules.proofs.function_check.Goals as goal
 
 pub rows_check-requires-clause-room : goal.rows_check-requires-clause-room

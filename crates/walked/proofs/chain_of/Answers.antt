@@ -29,10 +29,14 @@ invariant_of-fault c =
     let t : T (machine_ok c.args.machine.now) = rw h.0 tt in
     record { named = rw h.1 (machine_fits _ t).ret_small }
 
+pub registers-requires : goal.registers-requires
+registers-requires c = c.requires
+
 pub returns : goal.returns
 returns c =
     let h = ok_picked _ _ _ c.in-Ok.is c.read_machine.ensures in
+    let r = c.registers.ensures in
     record {
-      walked = c.frames.ensures.walked ∙ frames_of_lem _ _ _ _ h.1 ∙ right_word _ _ h.0 c.in-Ok.known h.1 c.if-known-ne8.false;
-      found = c.frames.ensures.found ∙ found_of_lem _ _ _ _ h.1 ∙ found_of_word _ _ h.0 c.in-Ok.known h.1 c.if-known-ne8.false;
+      walked = c.frames.ensures.walked ∙ rw r (frames_of_lem _ _ _ _ h.1) ∙ right_word _ _ h.0 c.in-Ok.known h.1 c.if-known-ne8.false;
+      found = c.frames.ensures.found ∙ rw r (found_of_lem _ _ _ _ h.1) ∙ found_of_word _ _ h.0 c.in-Ok.known h.1 c.if-known-ne8.false;
     }

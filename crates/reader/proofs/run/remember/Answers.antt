@@ -3,8 +3,8 @@ use mathlib.Core.Path.{refl}
 use Rattle.reader.proofs.Acting.{full, remembered}
 use Rattle.reader.proofs.run.remember.Goals as goal
 
-pub returns-in_default : goal.returns-in_default
-returns-in_default c = full c.args.s.now c.in_default.ensures.full
+pub returns-then-depth-ge16 : goal.returns-then-depth-ge16
+returns-then-depth-ge16 c = full c.args.s.now c.if-depth-ge16.true
 
 pub returns : goal.returns
-returns c = remembered c.args.s.now (c.in-Ok.ensures.variant.0 refl) c.in-Ok.ensures.ok
+returns c = remembered c.args.s.now _ c.if-depth-ge16.false refl refl refl

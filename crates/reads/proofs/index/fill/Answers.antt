@@ -11,7 +11,7 @@ unfolding stored_as
 entries-init c =
     let a = c.args in
     let e = c.new-entry-items.ensures in
-    rw (c.into_iter-entry-iterator.ensures.into_iter_gives) (begin e.0 e.1 (filling a.section.now.bytes.now a.section.now.layout.debug a.section.now.relocations.now a.places.now c.requires.0 c.requires.1, marking a.section.now.bytes.now c.requires.0))
+    rw (c.into_iter-entry-iterator.ensures.into_iter_gives) (begin e.0 e.1 (filling a.links.now.bytes.now a.links.now.debug a.links.now.relocations.now a.places.now c.requires.0 c.requires.1, marking a.links.now.bytes.now c.requires.0))
 
 pub is_header-requires : goal.is_header-requires
 is_header-requires c = held c.entries.invariant c.in-Some.ensures.steps

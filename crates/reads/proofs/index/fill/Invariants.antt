@@ -6,6 +6,6 @@ use Rattle.reads.proofs.index.fill.Given as goal
 
 abbrev pub invariant-entries : goal.invariant-entries
 invariant-entries l =
-    Over l.section.bytes.now
-    (λ at. Filling l.section.bytes.now l.section.layout.debug l.section.relocations.now l.initial.places l.places l.from (stored_as l.last) l.i at × Marking l.section.bytes.now l.stretches.marks at)
+    Over l.links.bytes.now
+    (λ at. Filling l.links.bytes.now l.links.debug l.links.relocations.now l.initial.places l.places l.from (stored_as l.last) l.i at × Marking l.links.bytes.now l.stretches.marks at)
     l.entry-iterator

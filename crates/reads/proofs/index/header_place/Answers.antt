@@ -2,6 +2,6 @@
 use Rattle.format.specs.Reader.{header_place}
 use Rattle.reads.proofs.index.header_place.Goals as goal
 
-pub returns-then-section : goal.returns-then-section
+pub returns-then-links : goal.returns-then-links
 unfolding header_place
-returns-then-section c = simp c.if-section.true c.addend_from.ensures
+returns-then-links c = simp c.if-links.true c.addend_from.ensures

@@ -7,4 +7,4 @@ use Rattle.rules.proofs.Order.start.Goals as goal
 
 pub returns : goal.returns
 unfolding pick row_check leaders_ok follow
-returns c = record { whole = λ xs. rw c.new.ensures refl }
+returns c = record { whole = λ xs. refl }

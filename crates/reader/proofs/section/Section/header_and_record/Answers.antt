@@ -16,10 +16,10 @@ returns-in_default c = missing c.args.self.now.bytes.now (relocations_of c.args.
 pub header_of-requires : goal.header_of-requires
 header_of-requires c =
     let p = record_stands c.args.self.now.bytes.now (relocations_of c.args.self.now.relocations.now) c.args.self.now.layout.debug c.args.k (sym c.tiles.ensures ∙ c.if-not-tiles.false) c.record_span.ensures c.in-Some.is in
-    ((p.long, p.inside), rw (sym c.tiles.ensures ∙ c.if-not-tiles.false) tt)
+    rw c.links.ensures.0 ((p.long, p.inside), rw (sym c.tiles.ensures ∙ c.if-not-tiles.false) tt)
 
 pub returns-in_default-header_of : goal.returns-in_default-header_of
-returns-in_default-header_of c = headless c.args.self.now.bytes.now (relocations_of c.args.self.now.relocations.now) c.args.self.now.layout.debug c.args.k (sym c.tiles.ensures ∙ c.if-not-tiles.false) c.record_span.ensures c.in-Some.is c.header_of.ensures c.in_default-header_of.is
+returns-in_default-header_of c = headless c.args.self.now.bytes.now (relocations_of c.args.self.now.relocations.now) c.args.self.now.layout.debug c.args.k (sym c.tiles.ensures ∙ c.if-not-tiles.false) c.record_span.ensures c.in-Some.is (rw (c.links.ensures.0, c.links.ensures.1, c.links.ensures.2) at c.header_of.ensures) c.in_default-header_of.is
 
 pub returns : goal.returns
-returns c = both_stand c.args.self.now.bytes.now (relocations_of c.args.self.now.relocations.now) c.args.self.now.layout.debug c.args.k (sym c.tiles.ensures ∙ c.if-not-tiles.false) c.record_span.ensures c.in-Some.is c.header_of.ensures c.in-Some-header_of.is
+returns c = both_stand c.args.self.now.bytes.now (relocations_of c.args.self.now.relocations.now) c.args.self.now.layout.debug c.args.k (sym c.tiles.ensures ∙ c.if-not-tiles.false) c.record_span.ensures c.in-Some.is (rw (c.links.ensures.0, c.links.ensures.1, c.links.ensures.2) at c.header_of.ensures) c.in-Some-header_of.is

@@ -7,13 +7,13 @@ use borrow.Author.Rules.{rules}
 use Rattle.x64.proofs.passed.Passed.info_size.Goals as goal
 
 pub overflow_mul-result : goal.overflow_mul-result
-overflow_mul-result c = let a = agreed _ _ c.args.self.now.passed in let e = c.codes_summary-t.ensures.slots in search rules
+overflow_mul-result c = let a = agreed _ _ c.args.self.now.passed in let e = c.slots-held.ensures in search rules
 
 pub overflow_add-result : goal.overflow_add-result
-overflow_add-result c = let a = agreed _ _ c.args.self.now.passed in let e = c.codes_summary-t.ensures.slots in search rules
+overflow_add-result c = let a = agreed _ _ c.args.self.now.passed in let e = c.slots-held.ensures in search rules
 
 pub overflow_add-result-2 : goal.overflow_add-result-2
-overflow_add-result-2 c = let a = agreed _ _ c.args.self.now.passed in let e = c.codes_summary-t.ensures.slots in search rules
+overflow_add-result-2 c = let a = agreed _ _ c.args.self.now.passed in let e = c.slots-held.ensures in search rules
 
 pub returns : goal.returns
-returns c = sym (info_parts c.args.self.now.span.end (codes_by c.args.self.now.span) c.codes_summary-t.ensures.slots).0
+returns c = sym (info_parts c.args.self.now.span.end (codes_by c.args.self.now.span) c.slots-held.ensures).0

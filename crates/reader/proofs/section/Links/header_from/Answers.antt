@@ -1,7 +1,7 @@
--- `reader::section::Section::header_from` meets its contract.
+-- `reader::section::Links::header_from` meets its contract.
 use Rattle.std.proofs.Common.{rules, tests}
 use Rattle.reader.proofs.Searches.{held_serves, found_header}
-use Rattle.reader.proofs.section.Section.header_from.Goals as goal
+use Rattle.reader.proofs.section.Links.header_from.Goals as goal
 
 pub starting-requires : goal.starting-requires
 starting-requires c = c.requires.0.tiled
@@ -13,4 +13,4 @@ pub returns : goal.returns
 returns c =
     let a = c.args in
     let e = c.starting.ensures in
-    found_header a.self.now.layout.debug a.place a.before c.starting.result c.find.new.self c.find.result e.0 e.1 c.requires.0 c.requires.1 (λ x b q k. search (rules, tests)) c.find.ensures.ran
+    found_header a.self.now.debug a.place a.before c.starting.result c.find.new.self c.find.result e.0 e.1 c.requires.0 c.requires.1 (λ x b q k. search (rules, tests)) c.find.ensures.ran

@@ -1,10 +1,10 @@
--- `reader::section::Section::header_of` meets its contract.
+-- `reader::section::Links::header_of` meets its contract.
 use mathlib.Core.Path.{sym, ◌∙◌}
 use native.Mathlib.Omega.{arith}
 use Rattle.format.specs.Prelude.{after}
 use Rattle.format.proofs.Asked.{value_is, none_is}
 use Rattle.reader.proofs.Seeking.{first_ahead}
-use Rattle.reader.proofs.section.Section.header_of.Goals as goal
+use Rattle.reader.proofs.section.Links.header_of.Goals as goal
 
 pub returns-in_err-place : goal.returns-in_err-place
 unfolding after

@@ -1,6 +1,6 @@
--- `reader::section::Section::header_place` meets its contract.
+-- `reader::section::Links::header_place` meets its contract.
 use Rattle.format.specs.Reader.{header_place}
-use Rattle.reader.proofs.section.Section.header_place.Goals as goal
+use Rattle.reader.proofs.section.Links.header_place.Goals as goal
 
 pub returns-then-self : goal.returns-then-self
 unfolding header_place
