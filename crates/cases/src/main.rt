@@ -48,7 +48,9 @@ struct Sums {
 }
 
 // The counted list at the front, and what stands behind it; nothing where it is cut off.
-fn counted(part: &[u64]) -> (&[u64], &[u64]) {
+fn counted(part: &[u64]) -> (&[u64], &[u64])
+    ensures { length result.0.now + length result.1.now ≤ length part.now }
+{
     let Some((count, behind)) = part.split_first() else {
         return (&[], &[]);
     };

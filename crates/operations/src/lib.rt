@@ -150,6 +150,7 @@ impl Operations<'_> {
     }
 
     // A saved register whose number was in the opcode.
+    #[inline(never)]
     fn saved_at(&self, at: Position, reg: u16) -> Option<(Operation, Position)>
         ensures { result ≡ saved_at self.now.word reg self.now.bytes.now at }
     {
@@ -160,6 +161,7 @@ impl Operations<'_> {
     // The operations whose opcode b holds no number, behind it.
     // Kept: an opcode with an offset is matched once more behind it. With a reader of the offset passed as a function the contracts of
     // offset_row_at and pair_row_at would say what it reads, its kind of number and how many bytes it takes at most.
+    #[inline(never)]
     fn extended_at(&self, at: Position, b: u8) -> Option<(Operation, Position)>
         requires { at.at ≤ length self.now.bytes.now }
         ensures { result ≡ extended_at self.now.word b self.now.bytes.now at }
@@ -194,7 +196,8 @@ impl Operations<'_> {
     }
 }
 
-// The operation at a position.
+// The operation at a position. It stands in the readers' loops; what is read behind an opcode is out of line.
+#[inline(always)]
 pub fn operation(s: &[u8], at: Position, word: u64) -> Option<(Operation, Position)>
     requires { 0 < word }
     ensures { result ≡ operation_at word s.now at }
